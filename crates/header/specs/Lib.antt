@@ -1,0 +1,4 @@
+pub mod Polynomials
+pub mod Code
+pub mod Reading
+pub mod Laws

@@ -1,0 +1,26 @@
+use mathlib.Core.Path.{sym, ap, _∙_}
+use lib.Seq.{take-all}
+use Rattle.std.specs.Of.String.{string-bytes}
+use Rattle.header_listing.specs.Text.{linesOf}
+use Rattle.header_listing.specs.Entries.{entries, advanced}
+use Rattle.header_listing.specs.Laws.{textFrom}
+use Rattle.header_listing.proofs.Pieces.{advanced-none, next-listing, next-text}
+use Rattle.header_listing.proofs.listing.Listing.lines.Needs as need
+
+pub loop-octet-holds : need.loop-octet-holds
+unfolding linesOf entries
+loop-octet-holds c = (c .new-text .ensures .bytes, sym (advanced-none (c .args .self .now)))
+
+pub loop-octet-again : need.loop-octet-again
+loop-octet-again c =
+    let l = c .args .self .now in
+    let octets = c .args .octets .now in
+    let turn = c .loop-octet in
+    let inside = c .loop-octet-test .taken in
+    let text = next-text l octets (turn .octet-index) inside (turn .listing) (turn .inv .1) (string-bytes (turn .text)) (string-bytes (c .write .last .text)) (c .next .result) (turn .inv .0) (c .next .ensures .value) (c .in-Continue-write .ensures tt) in
+    (text, next-listing l octets (turn .octet-index) inside (turn .listing) (turn .inv .1) (c .next .last .self) (c .next .ensures .after))
+
+pub returns : need.returns
+returns c =
+    let whole = take-all (c .loop-octet .octet-index) (c .args .octets .now) (c .loop-octet-test .left) in
+    (c .loop-octet .inv .0 ∙ ap (textFrom (c .args .self .now)) whole, c .loop-octet .inv .1 ∙ ap (advanced (c .args .self .now)) whole)

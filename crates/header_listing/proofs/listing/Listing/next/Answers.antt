@@ -1,0 +1,11 @@
+use Rattle.header_listing.proofs.Pieces.{one-entry, one-more}
+use Rattle.header_listing.proofs.listing.Listing.next.Needs as need
+
+pub returns : need.returns
+returns c =
+    let l = c .args .self .now in
+    let got = c .read-reading in
+    record {
+      value = one-entry l (c .args .octet) (got .result) (got .last .self) (c .mode .result) (got .ensures .value) (got .ensures .mode) (c .mode .ensures);
+      after = one-more l (c .args .octet) (got .result) (got .last .self) (c .mode .result) (got .ensures .value) (got .ensures .mode) (c .mode .ensures) (c .note .last .self) (c .note .ensures);
+    }

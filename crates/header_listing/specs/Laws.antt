@@ -1,0 +1,48 @@
+-- The listing, in the words of its subject.
+use mathlib.Core.Path.{_≡_}
+use mathlib.Core.Bool.{Bool, true, cond}
+use mathlib.Core.List.{List, [], _∷_, _++_}
+use Prim.Native.Nat.{ℕ, _+_, _<_}
+use lib.ListN.{length}
+use Rattle.std.specs.Orderings.{Decides}
+use Rattle.header.specs.declared.reader.Mode.{Mode}
+use Rattle.header.specs.declared.reader.Mode.the-variants.{Correction}
+use Rattle.header.specs.Code.{sealed}
+use Rattle.header.specs.Reading.{reading}
+use Rattle.header_listing.specs.declared.entry.Entry.{Entry}
+use Rattle.header_listing.specs.declared.listing.Listing.{Listing}
+use Rattle.header_listing.specs.Text.{linesOf}
+use Rattle.header_listing.specs.Entries.{entryOf, entries, isCorrected, isInvalid, capped, opened, advanced}
+
+-- the text of the octets that a listing goes on with
+abbrev pub textFrom : Listing → List ℕ → List ℕ
+textFrom l octets = linesOf (entries (l .reader .mode) octets)
+
+-- two pieces, one after the other, are one recording
+pub record Joins (l : Listing) (xs ys : List ℕ) : Type 0 where
+  pub text : textFrom l (xs ++ ys) ≡ textFrom l xs ++ textFrom (advanced l xs) ys
+  pub state : advanced l (xs ++ ys) ≡ advanced (advanced l xs) ys
+
+abbrev pub PiecesJoin : Type 0
+PiecesJoin = (l : Listing) (xs ys : List ℕ) → Joins l xs ys
+
+-- how many entries pass a test
+unfoldable pub howMany : (Entry → Bool) → List Entry → ℕ
+howMany p [] = 0
+howMany p (e ∷ es) = cond (p e) 1 0 + howMany p es
+
+-- the numbers of a whole recording, read from its first octet on
+pub record Counts (octets : List ℕ) : Type 0 where
+  pub read : advanced opened octets .tally .read ≡ capped (length octets)
+  pub corrected : advanced opened octets .tally .corrected ≡ capped (howMany isCorrected (entries Correction octets))
+  pub invalid : advanced opened octets .tally .invalid ≡ capped (howMany isInvalid (entries Correction octets))
+
+abbrev pub NumbersCountOctets : Type 0
+NumbersCountOctets = (octets : List ℕ) → Counts octets
+
+-- the reading is valid, and the octet is not itself the header of the CSI and the count that were read
+abbrev pub Differs : Mode → ℕ → Type 0
+Differs m octet = (reading m octet .valid ≡ true) × (octet ≡ sealed (reading m octet .csi) (reading m octet .count) → ⊥)
+
+abbrev pub CorrectedOctetsDiffer : Type 0
+CorrectedOctetsDiffer = (m : Mode) (octet : ℕ) → octet < 256 → Decides (isCorrected (entryOf m octet)) (Differs m octet)
