@@ -2,14 +2,15 @@
 use Prim.Native.Nat.{ℕ}
 use mathlib.Core.List.{List}
 use lib.Bits.{bitXor}
-use lib.ListN.{drop, getD, set}
+use lib.ListN.{take, drop, getD, set}
 use Rattle.cell.specs.declared.octets.Cell.{Cell}
 
 abbrev pub headerOf : Cell → ℕ
 headerOf c = getD (c .octets) 0 0
 
+-- the 47 octets from octet 1 on
 abbrev pub payloadOf : Cell → List ℕ
-payloadOf c = drop 1 (c .octets)
+payloadOf c = take 47 (drop 1 (c .octets))
 
 -- another header octet, the payload as it was
 abbrev pub withHeader : ℕ → Cell → Cell

@@ -93,7 +93,11 @@ impl Fault {
     pub fn new(refusal: Refusal, part: Part) -> Fault
         ensures { λ r. ⌜ r ≡ raised refusal part 0 ⌝ }
     {
-        Fault { refusal, part, place: 0 }
+        Fault {
+            refusal,
+            part,
+            place: 0,
+        }
     }
 
     /// The number by which the refusal is known.

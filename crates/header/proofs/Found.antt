@@ -39,12 +39,12 @@ traced-from m octet csi count after e =
       csi-small = ltb-true csi 2 (a .0);
       count-small = ltb-true count 8 (b .0);
       from = ⊎-elim
-        (λ t. let s = and-parts (eqb octet (sealed csi count)) _ t in inl (eqb-true octet _ (s .0), same-mode after Correction (s .1)))
-        (λ t. let s = and-parts (sameMode m Correction) _ t in
+          (λ t. let s = and-parts (eqb octet (sealed csi count)) _ t in inl (eqb-true octet _ (s .0), same-mode after Correction (s .1)))
+          (λ t. let s = and-parts (sameMode m Correction) _ t in
           let u = and-parts (sameMode after Detection) _ (s .1) in
           let at = some-below (turnedAt octet csi count) 8 (u .1) in
           inr (same-mode m Correction (s .0), same-mode after Detection (u .0), (at .0, at .1, eqb-true octet _ (at .2))))
-        (or-cases (asSealed octet csi count after) _ (b .1));
+          (or-cases (asSealed octet csi count after) _ (b .1));
     }
 
 asReceived : ℕ → Reading → Mode → Bool
@@ -57,12 +57,12 @@ explained-from : (m : Mode) (octet : ℕ) (answer : Reading) (after : Mode) → 
 unfolding explained asReceived
 explained-from m octet answer after e = record {
   when-valid = λ v.
-    let passed = sym (cond-true (answer .valid) (traced m octet (answer .csi) (answer .count) after) (asReceived octet answer after) v) ∙ e in
-    traced-from m octet (answer .csi) (answer .count) after passed;
+      let passed = sym (cond-true (answer .valid) (traced m octet (answer .csi) (answer .count) after) (asReceived octet answer after) v) ∙ e in
+      traced-from m octet (answer .csi) (answer .count) after passed;
   when-invalid = λ v.
-    let passed = sym (cond-false (answer .valid) (traced m octet (answer .csi) (answer .count) after) (asReceived octet answer after) v) ∙ e in
-    let s = and-parts (sameReading answer (fieldsOf octet false)) (sameMode after Detection) passed in
-    (same-reading answer (fieldsOf octet false) (s .0), same-mode after Detection (s .1));
+      let passed = sym (cond-false (answer .valid) (traced m octet (answer .csi) (answer .count) after) (asReceived octet answer after) v) ∙ e in
+      let s = and-parts (sameReading answer (fieldsOf octet false)) (sameMode after Detection) passed in
+      (same-reading answer (fieldsOf octet false) (s .0), same-mode after Detection (s .1));
 }
 
 explained-test : (m : Mode) → allBelow (λ octet. explained m octet (reading m octet) (modeAfter m octet)) 256 ≡ true

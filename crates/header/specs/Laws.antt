@@ -64,7 +64,7 @@ pub record Traced (m : Mode) (octet csi count : ℕ) (after : Mode) : Type 0 whe
   pub csi-small : csi < 2
   pub count-small : count < 8
   pub from : ((octet ≡ sealed csi count) × (after ≡ Correction))
-    ⊎ ((m ≡ Correction) × (after ≡ Detection) × ((i : ℕ) × (i < 8) × (octet ≡ bitXor (sealed csi count) (2 ^ i))))
+      ⊎ ((m ≡ Correction) × (after ≡ Detection) × ((i : ℕ) × (i < 8) × (octet ≡ bitXor (sealed csi count) (2 ^ i))))
 
 -- What a reading says of the octet that was read.
 pub record Explained (m : Mode) (octet : ℕ) (answer : Reading) (after : Mode) : Type 0 where

@@ -1,7 +1,9 @@
 -- Reading a header octet, in the reader's mode.
 use mathlib.Core.Bool.{Bool, true, false, cond, not, _&&_}
+use mathlib.Core.List.{List}
 use Prim.Native.Nat.{ℕ, _/_, _%_}
 use lib.Bits.{bitXor}
+use lib.Chars.{codes}
 use lib.Dec.{eqb}
 use Rattle.header.specs.declared.finding.Finding.{Finding}
 use Rattle.header.specs.declared.finding.Finding.the-variants.{Intact, Correctable, Invalid}
@@ -9,6 +11,11 @@ use Rattle.header.specs.declared.reader.Mode.{Mode}
 use Rattle.header.specs.declared.reader.Mode.the-variants.{Correction, Detection}
 use Rattle.header.specs.declared.reader.Reading.{Reading}
 use Rattle.header.specs.Code.{syndromeOf, violated, namedBy}
+
+-- the names of the modes
+abbrev pub modeName : Mode → List ℕ
+modeName Correction = codes "correction"
+modeName Detection = codes "detection"
 
 -- the CSI and the count as they stand in an octet
 abbrev pub fieldsOf : ℕ → Bool → Reading

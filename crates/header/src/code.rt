@@ -55,7 +55,9 @@ pub fn seal(csi: u8, count: u8) -> Result<u8, Fault>
 fn header_of(csi: u8, count: u8) -> u8
     requires csi { ⌜ csi < 2 ⌝ }
     requires count { ⌜ count < 8 ⌝ }
-    ensures { λ r. ⌜ r ≡ sealed csi count ⌝ }
+    ensures value { λ r. ⌜ r ≡ sealed csi count ⌝ }
+    ensures formed { λ r. ⌜ Formed csi count r ⌝ }
+    ensures protected { λ r. ⌜ Protected csi count r ⌝ }
 {
     let bits = csi * 8 + count;
     let body = bits * 16 + crc(bits) * 2;

@@ -55,5 +55,9 @@ impl Finding {
 fn fields(octet: u8, valid: bool) -> Reading
     ensures { λ r. ⌜ r ≡ fieldsOf octet valid ⌝ }
 {
-    Reading { csi: octet / 128, count: octet / 16 % 8, valid }
+    Reading {
+        csi: octet / 128,
+        count: octet / 16 % 8,
+        valid,
+    }
 }

@@ -1,7 +1,7 @@
 // Reading header octets, one after the other, in correction or in detection mode.
 ghost use mathlib.Core.Path.{_≡_};
 ghost use Rattle.header.specs.declared.reader.Mode.the-variants.{Correction};
-ghost use Rattle.header.specs.Reading.{reading, modeAfter};
+ghost use Rattle.header.specs.Reading.{modeName, reading, modeAfter};
 ghost use Rattle.header.specs.Laws.{Explained};
 use crate::code::syndrome;
 use crate::finding::Finding;
@@ -13,6 +13,18 @@ pub enum Mode {
     Correction,
     /// Nothing is turned back.
     Detection,
+}
+
+impl Mode {
+    /// The mode's name, for people.
+    pub fn name(self) -> &'static str
+        ensures { λ r. ⌜ now r ≡ modeName self ⌝ }
+    {
+        match self {
+            Mode::Correction => "correction",
+            Mode::Detection => "detection",
+        }
+    }
 }
 
 /// What was read from a header octet.
@@ -48,7 +60,8 @@ impl Reader {
     pub fn mode(&self) -> Mode
         ensures { λ r. ⌜ r ≡ now (self .entry) .mode ⌝ }
     {
-        self.mode
+        let Reader { mode } = *self;
+        mode
     }
 
     /// Reads one header octet, and moves the mode.
@@ -57,9 +70,19 @@ impl Reader {
         ensures mode { λ _. ⌜ now (self .exit) .mode ≡ modeAfter (now (self .entry) .mode) octet ⌝ }
         ensures explained { λ r. ⌜ Explained (now (self .entry) .mode) octet r (now (self .exit) .mode) ⌝ }
     {
-        let odd = octet.count_ones() % 2 == 1;
-        let finding = Finding::judge(self.mode, syndrome(octet) == 0, odd);
-        self.mode = finding.next_mode();
-        finding.answer(octet)
+        let (reading, mode) = read_in(self.mode, octet);
+        self.mode = mode;
+        reading
     }
+}
+
+// What an octet is read as in a mode, and the mode that follows.
+fn read_in(mode: Mode, octet: u8) -> (Reading, Mode)
+    ensures value { λ r. ⌜ r .0 ≡ reading mode octet ⌝ }
+    ensures mode { λ r. ⌜ r .1 ≡ modeAfter mode octet ⌝ }
+    ensures explained { λ r. ⌜ Explained mode octet (r .0) (r .1) ⌝ }
+{
+    let odd = octet.count_ones() % 2 == 1;
+    let finding = Finding::judge(mode, syndrome(octet) == 0, odd);
+    (finding.answer(octet), finding.next_mode())
 }

@@ -12,8 +12,8 @@ use Rattle.header_listing.specs.declared.entry.Entry.{Entry}
 use Rattle.header_listing.specs.declared.listing.Listing.{Listing}
 use Rattle.header_listing.specs.declared.listing.Tally.{Tally}
 use Rattle.header_listing.specs.Text.{lineOf, linesOf}
-use Rattle.header_listing.specs.Laws.{textFrom, Joins}
-use Rattle.header_listing.specs.Entries.{entryOf, entries, modeAfterAll, noted, tallied, advanced}
+use Rattle.header_listing.specs.Laws.{Joins}
+use Rattle.header_listing.specs.Entries.{entryOf, entries, modeAfterAll, noted, tallied, advanced, textFrom}
 
 -- one octet
 
@@ -88,7 +88,7 @@ module _ (l : Listing) (octets : List ℕ) (i : ℕ) (inside : i < length octets
   next-text before after e told entered written =
       let octet = getD octets i 0 in
       let line : lineOf e ≡ textFrom (advanced l (take i octets)) (octet ∷ []) =
-        ap lineOf entered ∙ sym (text-one here octet) ∙ ap (λ x. textFrom x (octet ∷ [])) so-far in
+      ap lineOf entered ∙ sym (text-one here octet) ∙ ap (λ x. textFrom x (octet ∷ [])) so-far in
       written ∙ ap (λ bs. bs ++ lineOf e) told ∙ ap (λ bs. textFrom l (take i octets) ++ bs) line
       ∙ sym (text-append l (take i octets) (octet ∷ []))
       ∙ ap (textFrom l) (sym (take-more octets i 0 inside))

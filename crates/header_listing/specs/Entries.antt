@@ -1,4 +1,5 @@
 -- What a reader finds in a recording, octet after octet, and how much of what.
+use mathlib.Core.Path.{_≡_}
 use mathlib.Core.Bool.{Bool, true, false, cond, not, _&&_}
 use mathlib.Core.List.{List, [], _∷_}
 use Prim.Native.Nat.{ℕ, _+_, _-_, _^_, min}
@@ -9,6 +10,7 @@ use Rattle.header.specs.Reading.{reading, modeAfter}
 use Rattle.header_listing.specs.declared.entry.Entry.{Entry}
 use Rattle.header_listing.specs.declared.listing.Listing.{Listing}
 use Rattle.header_listing.specs.declared.listing.Tally.{Tally}
+use Rattle.header_listing.specs.Text.{linesOf}
 
 -- one octet, read in a mode
 abbrev pub entryOf : Mode → ℕ → Entry
@@ -65,3 +67,12 @@ advanced l octets = record {
   reader = record { mode = modeAfterAll (l .reader .mode) octets };
   tally = tallied (l .tally) (entries (l .reader .mode) octets);
 }
+
+-- the text of the octets that a listing goes on with
+abbrev pub textFrom : Listing → List ℕ → List ℕ
+textFrom l octets = linesOf (entries (l .reader .mode) octets)
+
+-- what an accepted call does: the octets were listed as text, and the listing went from l to m
+pub record Listed (l : Listing) (octets text : List ℕ) (m : Listing) : Type 0 where
+  pub lines : text ≡ textFrom l octets
+  pub after : m ≡ advanced l octets

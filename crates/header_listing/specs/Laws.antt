@@ -11,12 +11,7 @@ use Rattle.header.specs.Code.{sealed}
 use Rattle.header.specs.Reading.{reading}
 use Rattle.header_listing.specs.declared.entry.Entry.{Entry}
 use Rattle.header_listing.specs.declared.listing.Listing.{Listing}
-use Rattle.header_listing.specs.Text.{linesOf}
-use Rattle.header_listing.specs.Entries.{entryOf, entries, isCorrected, isInvalid, capped, opened, advanced}
-
--- the text of the octets that a listing goes on with
-abbrev pub textFrom : Listing → List ℕ → List ℕ
-textFrom l octets = linesOf (entries (l .reader .mode) octets)
+use Rattle.header_listing.specs.Entries.{entryOf, entries, isCorrected, isInvalid, capped, opened, advanced, textFrom}
 
 -- two pieces, one after the other, are one recording
 pub record Joins (l : Listing) (xs ys : List ℕ) : Type 0 where

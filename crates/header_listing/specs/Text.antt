@@ -5,8 +5,7 @@ use Prim.Native.Nat.{ℕ, _+_, _-_, _/_, _%_}
 use lib.Chars.{codes}
 use lib.Dec.{ltb}
 use Rattle.std.specs.Written.{decimal}
-use Rattle.header.specs.declared.reader.Mode.{Mode}
-use Rattle.header.specs.declared.reader.Mode.the-variants.{Correction, Detection}
+use Rattle.header.specs.Reading.{modeName}
 use Rattle.header_listing.specs.declared.entry.Entry.{Entry}
 use Rattle.header_listing.specs.declared.listing.Tally.{Tally}
 
@@ -22,10 +21,6 @@ abbrev pub validityWord : Bool → List ℕ
 validityWord true = codes "valid"
 validityWord false = codes "invalid"
 
-abbrev pub modeWord : Mode → List ℕ
-modeWord Correction = codes "correction"
-modeWord Detection = codes "detection"
-
 -- a line: the octet, the CSI, the count, the validity and the mode that followed, single spaces between
 unfoldable pub lineOf : Entry → List ℕ
 lineOf e =
@@ -33,7 +28,7 @@ lineOf e =
     ++ (codes " " ++ (decimal (e .reading .csi)
     ++ (codes " " ++ (decimal (e .reading .count)
     ++ (codes " " ++ (validityWord (e .reading .valid)
-    ++ (codes " " ++ (modeWord (e .mode)
+    ++ (codes " " ++ (modeName (e .mode)
     ++ codes "\n"))))))))
 
 unfoldable pub linesOf : List Entry → List ℕ
@@ -41,7 +36,7 @@ linesOf [] = []
 linesOf (e ∷ es) = lineOf e ++ linesOf es
 
 -- the last line
-unfoldable pub summaryOf : Tally → List ℕ
+abbrev pub summaryOf : Tally → List ℕ
 summaryOf t =
     codes "read " ++ (decimal (t .read)
     ++ (codes " corrected " ++ (decimal (t .corrected)

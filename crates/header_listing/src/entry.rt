@@ -4,7 +4,7 @@ ghost use mathlib.Core.List.{List, _++_};
 ghost use Prim.Native.Nat.{ℕ, _<_};
 ghost use Rattle.std.specs.Of.String.{string-bytes};
 ghost use Rattle.std.specs.Vec.{made};
-ghost use Rattle.header_listing.specs.Text.{hexDigit, validityWord, modeWord, lineOf};
+ghost use Rattle.header_listing.specs.Text.{hexDigit, validityWord, lineOf};
 use header::Mode;
 use header::Reading;
 use std::alloc::AllocError;
@@ -28,7 +28,7 @@ impl Entry {
         let csi = self.reading.csi;
         let count = self.reading.count;
         let validity = validity_word(self.reading.valid);
-        let mode = mode_word(self.mode);
+        let mode = self.mode.name();
         format!(heap, "{high}{low} {csi} {count} {validity} {mode}\n")
     }
 
@@ -46,20 +46,15 @@ fn hex_digit(n: u8) -> char
     ensures value { λ r. ⌜ r ≡ hexDigit n ⌝ }
     ensures ascii { λ r. ⌜ r < 128 ⌝ }
 {
-    if n < 10 { (b'0' + n) as char } else { (b'A' + (n - 10)) as char }
+    if n < 10 {
+        (b'0' + n) as char
+    } else {
+        (b'A' + (n - 10)) as char
+    }
 }
 
 fn validity_word(valid: bool) -> &'static str
     ensures { λ r. ⌜ now r ≡ validityWord valid ⌝ }
 {
     if valid { "valid" } else { "invalid" }
-}
-
-fn mode_word(mode: Mode) -> &'static str
-    ensures { λ r. ⌜ now r ≡ modeWord mode ⌝ }
-{
-    match mode {
-        Mode::Correction => "correction",
-        Mode::Detection => "detection",
-    }
 }

@@ -4,17 +4,14 @@ ghost use Rattle.header_listing.specs.Laws.{PiecesJoin, NumbersCountOctets, Co
 /// However a recording is cut into pieces, the text and the numbers are the same.
 pub fn pieces_join()
     ensures { λ _. ⌜ PiecesJoin ⌝ }
-{
-}
+{}
 
 /// The three numbers are how many octets there were, how many were corrected, and how many invalid.
 pub fn numbers_count_octets()
     ensures { λ _. ⌜ NumbersCountOctets ⌝ }
-{
-}
+{}
 
 /// An octet counts as corrected exactly if it is valid and is not itself the header that was read.
 pub fn corrected_octets_differ()
     ensures { λ _. ⌜ CorrectedOctetsDiffer ⌝ }
-{
-}
+{}

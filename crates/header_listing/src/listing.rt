@@ -5,8 +5,8 @@ ghost use Prim.Native.Nat.{ℕ};
 ghost use Rattle.std.specs.Of.String.{string-bytes};
 ghost use Rattle.std.specs.Results.{Cases};
 ghost use Rattle.std.specs.Vec.{made};
-ghost use Rattle.header_listing.specs.Text.{linesOf, summaryOf};
-ghost use Rattle.header_listing.specs.Entries.{entryOf, entries, opened, advanced, noted};
+ghost use Rattle.header_listing.specs.Text.{summaryOf};
+ghost use Rattle.header_listing.specs.Entries.{entryOf, opened, advanced, noted, Listed};
 use crate::entry::Entry;
 use header::Mode;
 use header::Reader;
@@ -34,19 +34,34 @@ impl Listing {
     pub fn new() -> Listing
         ensures { λ r. ⌜ r ≡ opened ⌝ }
     {
-        Listing { reader: Reader::new(), tally: Tally { read: 0, corrected: 0, invalid: 0 } }
+        Listing {
+            reader: Reader::new(),
+            tally: Tally {
+                read: 0,
+                corrected: 0,
+                invalid: 0,
+            },
+        }
     }
 
     /// The lines of the octets that come next. Without memory for them nothing changes.
     pub fn lines(&mut self, heap: Global, octets: &[u8]) -> Result<String, AllocError>
-        ensures { λ r. ⌜ Cases r (λ s. (string-bytes s ≡ linesOf (entries (now (self .entry) .reader .mode) (now (octets .entry)))) × (now (self .exit) ≡ advanced (now (self .entry)) (now (octets .entry)))) (λ _. now (self .exit) ≡ now (self .entry)) ⌝ }
+        ensures { λ r. ⌜ Cases r (λ s. Listed (now (self .entry)) (now (octets .entry)) (string-bytes s) (now (self .exit))) (λ _. now (self .exit) ≡ now (self .entry)) ⌝ }
     {
         let mut listing = *self;
+        let text = listing.advance(heap, octets)?;
+        *self = listing;
+        Ok(text)
+    }
+
+    // The same; without memory the listing is left anywhere.
+    fn advance(&mut self, heap: Global, octets: &[u8]) -> Result<String, AllocError>
+        ensures { λ r. ⌜ made r (λ s. Listed (now (self .entry)) (now (octets .entry)) (string-bytes s) (now (self .exit))) ⌝ }
+    {
         let mut text = String::new(heap);
         for octet in octets {
-            listing.next(*octet).write(heap, &mut text)?;
+            self.next(*octet).write(heap, &mut text)?;
         }
-        *self = listing;
         Ok(text)
     }
 
@@ -57,7 +72,11 @@ impl Listing {
     {
         let mut reader = self.reader;
         let reading = reader.read(octet);
-        let entry = Entry { octet, reading, mode: reader.mode() };
+        let entry = Entry {
+            octet,
+            reading,
+            mode: reader.mode(),
+        };
         self.reader = reader;
         self.tally.note(entry);
         entry
@@ -70,7 +89,10 @@ impl Listing {
         let read = self.tally.read;
         let corrected = self.tally.corrected;
         let invalid = self.tally.invalid;
-        format!(heap, "read {read} corrected {corrected} invalid {invalid}\n")
+        format!(
+            heap,
+            "read {read} corrected {corrected} invalid {invalid}\n"
+        )
     }
 }
 

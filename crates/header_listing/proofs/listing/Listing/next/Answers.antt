@@ -5,7 +5,6 @@ pub returns : need.returns
 returns c =
     let l = c .args .self .now in
     let got = c .read-reading in
-    record {
-      value = one-entry l (c .args .octet) (got .result) (got .last .self) (c .mode .result) (got .ensures .value) (got .ensures .mode) (c .mode .ensures);
-      after = one-more l (c .args .octet) (got .result) (got .last .self) (c .mode .result) (got .ensures .value) (got .ensures .mode) (c .mode .ensures) (c .note .last .self) (c .note .ensures);
-    }
+    let entry = one-entry l (c .args .octet) (got .result) (got .last .self) (c .mode .result) (got .ensures .value) (got .ensures .mode) (c .mode .ensures) in
+    let more = one-more l (c .args .octet) (got .result) (got .last .self) (c .mode .result) (got .ensures .value) (got .ensures .mode) (c .mode .ensures) (c .note .last .self) (c .note .ensures) in
+    record { value = cc (entry); after = cc (more) }

@@ -1,0 +1,5 @@
+-- All the worked examples. Each part that has some adds them here.
+use Rattle.examples.specs.Headers.{HeaderExamples}
+
+pub record Examples : Type 0 where
+  pub headers : HeaderExamples
