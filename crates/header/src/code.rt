@@ -14,8 +14,8 @@ const CRC: [u8; 16] = [0, 3, 6, 5, 7, 4, 1, 2, 5, 6, 3, 0, 2, 1, 4, 7];
 // The bit that every syndrome names.
 const NAMED: [u8; 8] = [1, 2, 4, 16, 8, 128, 32, 64];
 
-/// The CRC of the four leading bits of a header.
-pub(crate) fn crc(bits: u8) -> u8
+// The CRC of the four leading bits of a header.
+fn crc(bits: u8) -> u8
     requires { ⌜ bits < 16 ⌝ }
     ensures value { λ r. ⌜ r ≡ crcOf bits ⌝ }
     ensures bound { λ r. ⌜ r < 8 ⌝ }
@@ -31,12 +31,11 @@ pub(crate) fn syndrome(octet: u8) -> u8
     crc(octet / 16) ^ (octet / 2 % 8)
 }
 
-/// The header bit that a syndrome names, as a mask.
-pub(crate) fn named(syndrome: u8) -> u8
-    requires { ⌜ syndrome < 8 ⌝ }
-    ensures { λ r. ⌜ r ≡ namedBy syndrome ⌝ }
+/// The bit that the syndrome of a header octet names, as a mask.
+pub(crate) fn named_bit(octet: u8) -> u8
+    ensures { λ r. ⌜ r ≡ namedBy (syndromeOf octet) ⌝ }
 {
-    NAMED[syndrome as usize]
+    NAMED[syndrome(octet) as usize]
 }
 
 /// The header octet of a CSI and a sequence count.

@@ -2,8 +2,7 @@
 ghost use mathlib.Core.Path.{_≡_};
 ghost use Prim.Native.Nat.{ℕ};
 ghost use Rattle.header.specs.Reading.{judged, fieldsOf, answered, moved};
-use crate::code::named;
-use crate::code::syndrome;
+use crate::code::named_bit;
 use crate::reader::Mode;
 use crate::reader::Reading;
 
@@ -34,7 +33,7 @@ impl Finding {
     {
         match self {
             Finding::Intact => fields(octet, true),
-            Finding::Correctable => fields(octet ^ named(syndrome(octet)), true),
+            Finding::Correctable => fields(octet ^ named_bit(octet), true),
             Finding::Invalid => fields(octet, false),
         }
     }

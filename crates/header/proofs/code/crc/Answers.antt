@@ -12,4 +12,4 @@ table = 0 ∷ 3 ∷ 6 ∷ 5 ∷ 7 ∷ 4 ∷ 1 ∷ 2 ∷ 5 ∷ 6 ∷ 3 ∷ 0 ∷ 
 
 pub returns : need.returns
 unfolding crcOf remainder reduced
-returns c = record { value = entry crcOf 16 table refl (c .args .bits) (c .pre); bound = entry-within 8 16 table refl (c .args .bits) (c .pre) }
+returns c = record { value = cc (entry crcOf 16 table refl (c .args .bits) (c .pre)); bound = entry-within 8 16 table refl (c .args .bits) (c .pre) }

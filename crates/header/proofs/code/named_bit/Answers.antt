@@ -4,7 +4,7 @@ use Prim.Native.Nat.{ℕ}
 use Rattle.header.specs.Polynomials.{reduced, remainder}
 use Rattle.header.specs.Code.{crcOf, syndromeOf, firstWith, namedBy}
 use Rattle.header.proofs.Tables.{entry}
-use Rattle.header.proofs.code.named.Needs as need
+use Rattle.header.proofs.code.named_bit.Needs as need
 
 -- as the code has it
 abbrev table : List ℕ
@@ -12,4 +12,6 @@ table = 1 ∷ 2 ∷ 4 ∷ 16 ∷ 8 ∷ 128 ∷ 32 ∷ 64 ∷ []
 
 pub returns : need.returns
 unfolding namedBy firstWith syndromeOf crcOf remainder reduced
-returns c = entry namedBy 8 table refl (c .args .syndrome) (c .pre)
+returns c =
+    let named = entry namedBy 8 table refl (c .syndrome .result) (c .syndrome .ensures .bound) in
+    cc (named, c .syndrome .ensures .value)
