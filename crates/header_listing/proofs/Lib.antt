@@ -1,3 +1,4 @@
-pub mod Pieces
+pub mod Short
+pub mod Entered
 pub mod Numbers
 pub mod Corrected

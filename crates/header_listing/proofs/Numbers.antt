@@ -9,9 +9,9 @@ use Rattle.header.specs.declared.reader.Mode.{Mode}
 use Rattle.header.specs.declared.reader.Mode.the-variants.{Correction}
 use Rattle.header.specs.Reading.{modeAfter}
 use Rattle.header_listing.specs.declared.entry.Entry.{Entry}
-use Rattle.header_listing.specs.declared.listing.Tally.{Tally}
-use Rattle.header_listing.specs.Entries.{entries, isCorrected, isInvalid, capped, bumped, noted, tallied, opened}
-use Rattle.header_listing.specs.Laws.{howMany, Counts}
+use Rattle.header_listing.specs.declared.listing.Listing.{Listing}
+use Rattle.header_listing.specs.Entries.{isCorrected, isInvalid, capped, bumped, opened, advanced}
+use Rattle.header_listing.specs.Laws.{entries, howMany, advancedBy, Counts}
 
 -- n and then one more for each entry that passes
 bumpedAll : (Entry → Bool) → ℕ → List Entry → ℕ
@@ -31,20 +31,22 @@ unfolding bumpedAll howMany
 all-counted p n [] h = omega arith
 all-counted p n (e ∷ es) h = all-counted p (bumped (p e) n) es (bumped-small (p e) n h) ∙ bumped-more (p e) n (howMany p es) h
 
-tallied-read : (t : Tally) (es : List Entry) → tallied t es .read ≡ bumpedAll (λ _. true) (t .read) es
-unfolding tallied bumpedAll
-tallied-read t [] = refl
-tallied-read t (e ∷ es) = tallied-read (noted t e) es
+-- the numbers after some octets, each by itself
 
-tallied-corrected : (t : Tally) (es : List Entry) → tallied t es .corrected ≡ bumpedAll isCorrected (t .corrected) es
-unfolding tallied bumpedAll
-tallied-corrected t [] = refl
-tallied-corrected t (e ∷ es) = tallied-corrected (noted t e) es
+after-read : (l : Listing) (octets : List ℕ) → advancedBy l octets .tally .read ≡ bumpedAll (λ _. true) (l .tally .read) (entries (l .reader .mode) octets)
+unfolding advancedBy entries bumpedAll
+after-read l [] = refl
+after-read l (octet ∷ octets) = after-read (advanced l octet) octets
 
-tallied-invalid : (t : Tally) (es : List Entry) → tallied t es .invalid ≡ bumpedAll isInvalid (t .invalid) es
-unfolding tallied bumpedAll
-tallied-invalid t [] = refl
-tallied-invalid t (e ∷ es) = tallied-invalid (noted t e) es
+after-corrected : (l : Listing) (octets : List ℕ) → advancedBy l octets .tally .corrected ≡ bumpedAll isCorrected (l .tally .corrected) (entries (l .reader .mode) octets)
+unfolding advancedBy entries bumpedAll
+after-corrected l [] = refl
+after-corrected l (octet ∷ octets) = after-corrected (advanced l octet) octets
+
+after-invalid : (l : Listing) (octets : List ℕ) → advancedBy l octets .tally .invalid ≡ bumpedAll isInvalid (l .tally .invalid) (entries (l .reader .mode) octets)
+unfolding advancedBy entries bumpedAll
+after-invalid l [] = refl
+after-invalid l (octet ∷ octets) = after-invalid (advanced l octet) octets
 
 all-entries : (m : Mode) (octets : List ℕ) → howMany (λ _. true) (entries m octets) ≡ length octets
 unfolding howMany entries
@@ -54,9 +56,8 @@ all-entries m (octet ∷ octets) = omega (arith, all-entries (modeAfter m octet)
 pub counts : (octets : List ℕ) → Counts octets
 counts octets =
     let es = entries Correction octets in
-    let t = opened .tally in
     record {
-      read = tallied-read t es ∙ all-counted (λ _. true) 0 es (omega arith) ∙ omega (arith, all-entries Correction octets);
-      corrected = tallied-corrected t es ∙ all-counted isCorrected 0 es (omega arith) ∙ omega arith;
-      invalid = tallied-invalid t es ∙ all-counted isInvalid 0 es (omega arith) ∙ omega arith;
+      read = after-read opened octets ∙ all-counted (λ _. true) 0 es (omega arith) ∙ omega (arith, all-entries Correction octets);
+      corrected = after-corrected opened octets ∙ all-counted isCorrected 0 es (omega arith) ∙ omega arith;
+      invalid = after-invalid opened octets ∙ all-counted isInvalid 0 es (omega arith) ∙ omega arith;
     }

@@ -1,10 +1,5 @@
 // Laws of the listing. Each function does nothing: its promise is a theorem, which the check has to see proved.
-ghost use Rattle.header_listing.specs.Laws.{PiecesJoin, NumbersCountOctets, CorrectedOctetsDiffer};
-
-/// However a recording is cut into pieces, the text and the numbers are the same.
-pub fn pieces_join()
-    ensures { λ _. ⌜ PiecesJoin ⌝ }
-{}
+ghost use Rattle.header_listing.specs.Laws.{NumbersCountOctets, CorrectedOctetsDiffer};
 
 /// The three numbers are how many octets there were, how many were corrected, and how many invalid.
 pub fn numbers_count_octets()

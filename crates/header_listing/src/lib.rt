@@ -5,5 +5,4 @@ mod listing;
 
 pub use laws::corrected_octets_differ;
 pub use laws::numbers_count_octets;
-pub use laws::pieces_join;
 pub use listing::Listing;

@@ -1,17 +1,12 @@
-// The listing as it goes through a recording, piece by piece.
+// The listing as it goes through a recording, octet by octet.
 ghost use mathlib.Core.Path.{_≡_};
-ghost use mathlib.Core.List.{List, [], _∷_};
-ghost use Prim.Native.Nat.{ℕ};
-ghost use Rattle.std.specs.Of.String.{string-bytes};
-ghost use Rattle.std.specs.Results.{Cases};
-ghost use Rattle.std.specs.Vec.{made};
-ghost use Rattle.header_listing.specs.Text.{summaryOf};
-ghost use Rattle.header_listing.specs.Entries.{entryOf, opened, advanced, noted, Listed};
+ghost use Rattle.text.specs.Lines.{textOf};
+ghost use Rattle.header_listing.specs.Text.{lineOf, summaryOf};
+ghost use Rattle.header_listing.specs.Entries.{entryOf, opened, advanced, noted};
 use crate::entry::Entry;
 use header::Mode;
 use header::Reader;
-use std::alloc::AllocError;
-use std::alloc::Global;
+use text::Line;
 
 /// How many octets were read, how many of them with a bit turned back, and how many were invalid.
 /// A number that has come to the largest u64 stays there.
@@ -44,31 +39,18 @@ impl Listing {
         }
     }
 
-    /// The lines of the octets that come next. Without memory for them nothing changes.
-    pub fn lines(&mut self, heap: Global, octets: &[u8]) -> Result<String, AllocError>
-        ensures { λ r. ⌜ Cases r (λ s. Listed (now (self .entry)) (now (octets .entry)) (string-bytes s) (now (self .exit))) (λ _. now (self .exit) ≡ now (self .entry)) ⌝ }
+    /// The line of the octet that comes next.
+    pub fn next(&mut self, octet: u8) -> Line
+        ensures line { λ r. ⌜ textOf r ≡ lineOf (entryOf (now (self .entry) .reader .mode) octet) ⌝ }
+        ensures after { λ _. ⌜ now (self .exit) ≡ advanced (now (self .entry)) octet ⌝ }
     {
-        let mut listing = *self;
-        let text = listing.advance(heap, octets)?;
-        *self = listing;
-        Ok(text)
-    }
-
-    // The same; without memory the listing is left anywhere.
-    fn advance(&mut self, heap: Global, octets: &[u8]) -> Result<String, AllocError>
-        ensures { λ r. ⌜ made r (λ s. Listed (now (self .entry)) (now (octets .entry)) (string-bytes s) (now (self .exit))) ⌝ }
-    {
-        let mut text = String::new(heap);
-        for octet in octets {
-            self.next(*octet).write(heap, &mut text)?;
-        }
-        Ok(text)
+        self.enter(octet).line()
     }
 
     // One octet more.
-    fn next(&mut self, octet: u8) -> Entry
+    fn enter(&mut self, octet: u8) -> Entry
         ensures value { λ r. ⌜ r ≡ entryOf (now (self .entry) .reader .mode) octet ⌝ }
-        ensures after { λ _. ⌜ now (self .exit) ≡ advanced (now (self .entry)) (octet ∷ []) ⌝ }
+        ensures after { λ _. ⌜ now (self .exit) ≡ advanced (now (self .entry)) octet ⌝ }
     {
         let mut reader = self.reader;
         let reading = reader.read(octet);
@@ -82,17 +64,11 @@ impl Listing {
         entry
     }
 
-    /// The last line, with its line feed.
-    pub fn summary(&self, heap: Global) -> Result<String, AllocError>
-        ensures { λ r. ⌜ made r (λ s. string-bytes s ≡ summaryOf (now (self .entry) .tally)) ⌝ }
+    /// The last line.
+    pub fn summary(&self) -> Line
+        ensures { λ r. ⌜ textOf r ≡ summaryOf (now (self .entry) .tally) ⌝ }
     {
-        let read = self.tally.read;
-        let corrected = self.tally.corrected;
-        let invalid = self.tally.invalid;
-        format!(
-            heap,
-            "read {read} corrected {corrected} invalid {invalid}\n"
-        )
+        self.tally.line()
     }
 }
 
@@ -107,5 +83,20 @@ impl Tally {
             (true, Mode::Detection) => self.corrected = self.corrected.saturating_add(1),
             (true, Mode::Correction) => {}
         }
+    }
+
+    // The line that tells the numbers, with its line feed.
+    fn line(&self) -> Line
+        ensures { λ r. ⌜ textOf r ≡ summaryOf (now (self .entry)) ⌝ }
+    {
+        let mut line = Line::new();
+        line.push_str("read ");
+        line.push_decimal(self.read);
+        line.push_str(" corrected ");
+        line.push_decimal(self.corrected);
+        line.push_str(" invalid ");
+        line.push_decimal(self.invalid);
+        line.push_str("\n");
+        line
     }
 }

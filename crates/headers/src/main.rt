@@ -1,24 +1,25 @@
 // Lists the header octets of a recording: from standard input to standard output.
 use header_listing::Listing;
 use std::io;
+use std::io::BufWriter;
 use std::io::Read;
 use std::io::Write;
 
 // Reads the recording piece by piece, so that its length does not matter.
 fn list(rt: &LibcRuntime) -> io::Result<()> {
-    let heap = rt.alloc();
     let mut input = rt.stdin();
-    let mut output = rt.stdout();
+    let mut output = BufWriter::new(rt.stdout());
     let mut listing = Listing::new();
     let mut piece = [0u8; 4096];
     for _ in 0..u64::MAX {
         let n = input.read(&mut piece)?;
         if n == 0 {
-            let summary = listing.summary(heap)?;
-            return output.write_all(summary.as_bytes());
+            output.write_all(listing.summary().text())?;
+            return output.flush();
         }
-        let lines = listing.lines(heap, &piece[0..n])?;
-        output.write_all(lines.as_bytes())?;
+        for octet in &piece[0..n] {
+            output.write_all(listing.next(*octet).text())?;
+        }
     }
     Err(io::Error::other("the recording does not end"))
 }

@@ -1,11 +1,65 @@
-use borrow.Author.Needs.{needs}
-use Rattle.std.proofs.shelf.Ascii.{encode-ascii}
-use Rattle.header_listing.specs.Text.{lineOf}
+use mathlib.Core.Path.{_≡_, subst}
+use mathlib.Core.List.{[], _∷_, _++_}
+use Prim.Native.Nat.{_≤_}
+use lib.Chars.{codes}
+use lib.ListN.{length}
+use Rattle.std.specs.Written.{decimal}
+use Rattle.header.specs.Reading.{modeName}
+use Rattle.text.specs.Lines.{textOf, kept, hexOf}
+use Rattle.text.proofs.Kept.{line-of, text-kept}
+use Rattle.header_listing.specs.Text.{validityWord, lineOf}
+use Rattle.header_listing.proofs.Short.{line-short}
 use Rattle.header_listing.proofs.entry.Entry.line.Needs as need
 
 pub returns : need.returns
 unfolding lineOf
 returns c =
-    let high = encode-ascii (c .hex-digit-high .result) (c .hex-digit-high .ensures .ascii) in
-    let low = encode-ascii (c .hex-digit-low .result) (c .hex-digit-low .ensures .ascii) in
-    search needs
+    let e = c .args .self .now in
+    let csi : textOf (c .push-decimal .last .self) ≡ kept (textOf (c .push-str .last .self) ++ decimal (e .reading .csi)) = cc (c .push-decimal .ensures .text, c .from .ensures) in
+    let count : textOf (c .push-decimal-2 .last .self) ≡ kept (textOf (c .push-str-2 .last .self) ++ decimal (e .reading .count)) = cc (c .push-decimal-2 .ensures .text, c .from-2 .ensures) in
+    let validity : textOf (c .push-str-4 .last .self) ≡ kept (textOf (c .push-str-3 .last .self) ++ validityWord (e .reading .valid)) = cc (c .push-str-4 .ensures, c .validity-word .ensures) in
+    let mode : textOf (c .push-str-6 .last .self) ≡ kept (textOf (c .push-str-5 .last .self) ++ modeName (e .mode)) = cc (c .push-str-6 .ensures, c .name .ensures) in
+    let csi-short : length (decimal (e .reading .csi)) ≤ 20 = subst (λ n. length (decimal n) ≤ 20) (c .from .ensures) (c .push-decimal .ensures .digits) in
+    let count-short : length (decimal (e .reading .count)) ≤ 20 = subst (λ n. length (decimal n) ≤ 20) (c .from-2 .ensures) (c .push-decimal-2 .ensures .digits) in
+    let pieces = hexOf (e .octet) ∷ codes " " ∷ decimal (e .reading .csi) ∷ codes " " ∷ decimal (e .reading .count) ∷ codes " " ∷ validityWord (e .reading .valid) ∷ codes " " ∷ modeName (e .mode) ∷ codes "\n" ∷ [] in
+    line-of (textOf (c .new-line .result)) pieces (textOf (c .push-str-7 .last .self)) (c .new-line .ensures) (line-short e csi-short count-short) (
+      textOf (c .push-hex .last .self),
+      c .push-hex .ensures,
+      (
+        textOf (c .push-str .last .self),
+        c .push-str .ensures,
+        (
+          textOf (c .push-decimal .last .self),
+          csi,
+          (
+            textOf (c .push-str-2 .last .self),
+            c .push-str-2 .ensures,
+            (
+              textOf (c .push-decimal-2 .last .self),
+              count,
+              (
+                textOf (c .push-str-3 .last .self),
+                c .push-str-3 .ensures,
+                (
+                  textOf (c .push-str-4 .last .self),
+                  validity,
+                  (
+                    textOf (c .push-str-5 .last .self),
+                    c .push-str-5 .ensures,
+                    (
+                      textOf (c .push-str-6 .last .self),
+                      mode,
+                      (
+                        textOf (c .push-str-7 .last .self),
+                        c .push-str-7 .ensures,
+                        text-kept (c .push-str-7 .last .self),
+                      ),
+                    ),
+                  ),
+                ),
+              ),
+            ),
+          ),
+        ),
+      ),
+    )
