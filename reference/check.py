@@ -22,9 +22,11 @@ HEADERS = [
 
 
 def outputs():
-    """Each stored output, with what it should be."""
-    yield CRATES / "headers/stdout", header_listing.listing((CRATES / "headers/stdin").read_bytes())
-    yield CRATES / "header_cases/stdout", cases.header_cases()
+    """Each output that a program has to write, with its text."""
+    return {
+        CRATES / "headers/stdout": header_listing.listing((CRATES / "headers/stdin").read_bytes()),
+        CRATES / "header_cases/stdout": cases.header_cases(),
+    }
 
 
 def check_self():
@@ -32,36 +34,43 @@ def check_self():
     for csi, row in enumerate(HEADERS):
         assert [header_code.seal(csi, count) for count in range(8)] == list(row), csi
     assert header_code.read("correction", 0x07) == (0, 1, True, "detection")
-    assert header_code.read("detection", 0x07)[2] is False
-    assert header_code.read("correction", 0x0F)[2] is False
-    assert header_code.read("detection", 0x0F)[2] is False
+    assert header_code.read("detection", 0x07) == (0, 0, False, "detection")
+    assert header_code.read("correction", 0x0F) == (0, 0, False, "detection")
+    assert header_code.read("detection", 0x0F) == (0, 0, False, "detection")
     assert header_code.read("correction", 0x01) == (0, 0, True, "detection")
+    assert header_listing.listing(b"\x07").startswith("07 0 1 valid detection\n")
+    assert header_listing.listing(b"") == "read 0 corrected 0 invalid 0\n"
 
 
 def first_difference(stored, made):
     for n, (a, b) in enumerate(zip(stored.split("\n"), made.split("\n")), 1):
         if a != b:
             return f"line {n}: stored {a!r}, computed {b!r}"
-    return "one is longer than the other"
+    return "the end: one is longer than the other"
+
+
+def compare(path, made):
+    """What is wrong with a stored output, or None."""
+    if not path.is_file():
+        return "is not stored"
+    if path.read_text() != made:
+        return f"differs at {first_difference(path.read_text(), made)}"
+    return None
 
 
 def main():
     check_self()
-    failed = 0
-    for path, made in outputs():
-        name = path.relative_to(ROOT)
-        if "--write" in sys.argv[1:]:
+    expected = outputs()
+    if "--write" in sys.argv[1:]:
+        for path, made in expected.items():
             path.write_text(made)
-            print(f"reference: wrote {name}")
-        elif not path.is_file():
-            failed += 1
-            print(f"reference: {name} is not stored")
-        elif path.read_text() != made:
-            failed += 1
-            print(f"reference: {name} differs at {first_difference(path.read_text(), made)}")
-        else:
-            print(f"reference: {name} is as computed")
-    return 1 if failed else 0
+            print(f"reference: wrote {path.relative_to(ROOT)}")
+        return 0
+    wrong = {path: compare(path, made) for path, made in expected.items()}
+    wrong.update({path: "is stored, but the reference does not compute it" for path in CRATES.glob("*/stdout") if path not in expected})
+    for path, what in wrong.items():
+        print(f"reference: {path.relative_to(ROOT)} {what or 'is as computed'}")
+    return 1 if any(wrong.values()) else 0
 
 
 if __name__ == "__main__":

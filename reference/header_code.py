@@ -1,4 +1,5 @@
 """The header code, from docs/rules/header-code.md alone. Bits are lists, the most significant first."""
+import functools
 
 CORRECTION, DETECTION = "correction", "detection"
 
@@ -29,6 +30,7 @@ def crc(leading):
     return remainder(leading + [0, 0, 0], [1, 0, 1, 1])
 
 
+@functools.cache
 def seal(csi, count):
     """The header octet, or a refusal (number, part, place)."""
     if csi > 1 or count > 7:
@@ -55,6 +57,7 @@ def fields(octet):
     return bits[0], to_number(bits[1:4])
 
 
+@functools.cache
 def read(mode, octet):
     """CSI, count, validity and the mode that follows."""
     violation = sum(to_bits(octet, 8)) % 2 == 1

@@ -1,6 +1,5 @@
 // What a refused call tells: why, where it arose, and at which place.
 ghost use mathlib.Core.Path.{_≡_};
-ghost use Prim.Native.Nat.{ℕ};
 ghost use Rattle.cell.specs.Faults.{numberOf, nameOf, raised};
 
 /// Why a call was refused. `number` answers the number by which each is known.

@@ -1,6 +1,5 @@
 // A cell, kept and passed on whole.
 ghost use mathlib.Core.Path.{_≡_};
-ghost use Prim.Native.Nat.{ℕ, _+_};
 ghost use lib.ListN.{length};
 ghost use Rattle.cell.specs.Cells.{headerOf, payloadOf, withHeader, turned};
 

@@ -24,14 +24,14 @@ asSealed octet csi count after = eqb octet (sealed csi count) && sameMode after 
 turnedAt : ℕ → ℕ → ℕ → ℕ → Bool
 turnedAt octet csi count i = eqb octet (bitXor (sealed csi count) (2 ^ i))
 
-oneTurned : Mode → ℕ → ℕ → ℕ → Mode → Bool
-oneTurned m octet csi count after = sameMode m Correction && (sameMode after Detection && anyBelow (turnedAt octet csi count) 8)
+oneOff : Mode → ℕ → ℕ → ℕ → Mode → Bool
+oneOff m octet csi count after = sameMode m Correction && (sameMode after Detection && anyBelow (turnedAt octet csi count) 8)
 
 traced : Mode → ℕ → ℕ → ℕ → Mode → Bool
-traced m octet csi count after = ltb csi 2 && (ltb count 8 && (asSealed octet csi count after || oneTurned m octet csi count after))
+traced m octet csi count after = ltb csi 2 && (ltb count 8 && (asSealed octet csi count after || oneOff m octet csi count after))
 
 traced-from : (m : Mode) (octet csi count : ℕ) (after : Mode) → traced m octet csi count after ≡ true → Traced m octet csi count after
-unfolding traced asSealed oneTurned turnedAt
+unfolding traced asSealed oneOff turnedAt
 traced-from m octet csi count after e =
     let a = and-parts (ltb csi 2) _ e in
     let b = and-parts (ltb count 8) _ (a .1) in
@@ -66,7 +66,7 @@ explained-from m octet answer after e = record {
 }
 
 explained-test : (m : Mode) → allBelow (λ octet. explained m octet (reading m octet) (modeAfter m octet)) 256 ≡ true
-unfolding explained traced asSealed oneTurned turnedAt asReceived reading modeAfter finding sealed body syndromeOf namedBy firstWith crcOf remainder reduced ones onesIn
+unfolding explained traced asSealed oneOff turnedAt asReceived reading modeAfter finding sealed body syndromeOf namedBy firstWith crcOf remainder reduced ones onesIn
 explained-test Correction = refl
 explained-test Detection = refl
 

@@ -1,18 +1,16 @@
 -- Every header is formed by the rules, and withstands what it should: computed over the sixteen of them. Assumes nothing.
 use mathlib.Core.Path.{_≡_, refl}
 use mathlib.Core.Bool.{Bool, true, false, _&&_, _||_}
-use mathlib.Core.List.{List}
 use Prim.Native.Nat.{ℕ, _+_, _*_, _/_, _%_, _^_, _<_}
 use lib.Bits.{bitXor}
 use lib.Count.{onesIn, ones}
 use lib.Dec.{eqb, ltb}
 use lib.ListN.{getD}
-use mathlib.Core.Logic.{inl, inr, ⊎-elim}
+use mathlib.Core.Logic.{⊎-elim}
 use borrow.Author.Tests.{eqb-true, ltb-true}
 use Rattle.std.proofs.shelf.Tests.{and-parts, or-cases}
 use Rattle.header.specs.declared.reader.Mode.{Mode}
 use Rattle.header.specs.declared.reader.Mode.the-variants.{Correction, Detection}
-use Rattle.header.specs.declared.reader.Reading.{Reading}
 use Rattle.header.specs.Polynomials.{generator, product, reduced, remainder}
 use Rattle.header.specs.Code.{crcOf, body, sealed, syndromeOf, firstWith, namedBy}
 use Rattle.header.specs.Reading.{fieldsOf, finding, reading, modeAfter}
@@ -83,8 +81,8 @@ clean m csi count = readBack m (sealed csi count) csi count Correction
 oneTurned : ℕ → ℕ → ℕ → Bool
 oneTurned csi count i = readBack Correction (bitXor (sealed csi count) (2 ^ i)) csi count Detection
 
-oneTold : ℕ → ℕ → ℕ → Bool
-oneTold csi count i = foundInvalid Detection (bitXor (sealed csi count) (2 ^ i))
+oneDetected : ℕ → ℕ → ℕ → Bool
+oneDetected csi count i = foundInvalid Detection (bitXor (sealed csi count) (2 ^ i))
 
 twoTurned : Mode → ℕ → ℕ → ℕ → ℕ → Bool
 twoTurned m csi count i j = eqb i j || foundInvalid m (bitXor (bitXor (sealed csi count) (2 ^ i)) (2 ^ j))
@@ -98,9 +96,9 @@ oneTurned-test : ofAll (λ csi count. allBelow (oneTurned csi count) 8) ≡ true
 unfolding oneTurned readBack reading modeAfter finding sealed body syndromeOf namedBy firstWith crcOf remainder reduced ones onesIn
 oneTurned-test = refl
 
-oneTold-test : ofAll (λ csi count. allBelow (oneTold csi count) 8) ≡ true
-unfolding oneTold foundInvalid reading modeAfter finding sealed body syndromeOf namedBy firstWith crcOf remainder reduced ones onesIn
-oneTold-test = refl
+oneDetected-test : ofAll (λ csi count. allBelow (oneDetected csi count) 8) ≡ true
+unfolding oneDetected foundInvalid reading modeAfter finding sealed body syndromeOf namedBy firstWith crcOf remainder reduced ones onesIn
+oneDetected-test = refl
 
 twoTurned-test : (m : Mode) → ofAll (λ csi count. allBelow (λ i. allBelow (twoTurned m csi count i) 8) 8) ≡ true
 unfolding twoTurned foundInvalid reading modeAfter finding sealed body syndromeOf namedBy firstWith crcOf remainder reduced ones onesIn
@@ -118,11 +116,11 @@ module _ (csi count : ℕ) (h : csi < 2) (k : count < 8) where
       reads-so Correction (bitXor (sealed csi count) (2 ^ i)) _ Detection
       (each-below (oneTurned csi count) 8 (of-each (λ x y. allBelow (oneTurned x y) 8) oneTurned-test csi count h k) i l)
 
-  one-told-holds : (i : ℕ) → i < 8 → Invalid Detection (bitXor (sealed csi count) (2 ^ i))
-  unfolding oneTold foundInvalid
-  one-told-holds i l =
+  one-detected-holds : (i : ℕ) → i < 8 → Invalid Detection (bitXor (sealed csi count) (2 ^ i))
+  unfolding oneDetected foundInvalid
+  one-detected-holds i l =
       reads-so Detection (bitXor (sealed csi count) (2 ^ i)) _ Detection
-      (each-below (oneTold csi count) 8 (of-each (λ x y. allBelow (oneTold x y) 8) oneTold-test csi count h k) i l)
+      (each-below (oneDetected csi count) 8 (of-each (λ x y. allBelow (oneDetected x y) 8) oneDetected-test csi count h k) i l)
 
   two-turned-holds : (m : Mode) (i j : ℕ) → i < 8 → j < 8 → (i ≡ j → ⊥) → Invalid m (bitXor (bitXor (sealed csi count) (2 ^ i)) (2 ^ j))
   unfolding twoTurned foundInvalid
@@ -133,4 +131,4 @@ module _ (csi count : ℕ) (h : csi < 2) (k : count < 8) where
       (or-cases (eqb i j) _ passed)
 
   pub sealed-protected : Protected csi count (sealed csi count)
-  sealed-protected = record { clean = clean-holds; one-turned = one-turned-holds; one-told = one-told-holds; two-turned = two-turned-holds }
+  sealed-protected = record { clean = clean-holds; one-turned = one-turned-holds; one-detected = one-detected-holds; two-turned = two-turned-holds }

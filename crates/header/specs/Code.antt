@@ -1,5 +1,5 @@
 -- The header octet: from the most significant bit the CSI (1 bit), the sequence count (3), the CRC (3) and a parity bit.
-use mathlib.Core.Bool.{Bool, true, false, cond, _&&_}
+use mathlib.Core.Bool.{Bool, cond, _&&_}
 use mathlib.Core.List.{List, [], _∷_}
 use Prim.Native.Nat.{ℕ, _+_, _*_, _/_, _%_, _^_}
 use lib.Bits.{bitXor}

@@ -1,7 +1,7 @@
 -- What the header code promises, in the words of its subject. Other parts know it by these alone.
 use mathlib.Core.Path.{_≡_}
 use mathlib.Core.Logic.{_⊎_}
-use mathlib.Core.Bool.{Bool, true, false}
+use mathlib.Core.Bool.{true, false}
 use mathlib.Core.List.{List, [], _∷_}
 use Prim.Native.Nat.{ℕ, _+_, _*_, _/_, _%_, _^_, _<_}
 use lib.Bits.{bitXor}
@@ -55,7 +55,7 @@ pub record Protected (csi count header : ℕ) : Type 0 where
   -- with any one bit turned it is read back in correction mode, and detection mode follows
   pub one-turned : (i : ℕ) → i < 8 → ReadsBack Correction (bitXor header (2 ^ i)) csi count Detection
   -- in detection mode it is found invalid
-  pub one-told : (i : ℕ) → i < 8 → Invalid Detection (bitXor header (2 ^ i))
+  pub one-detected : (i : ℕ) → i < 8 → Invalid Detection (bitXor header (2 ^ i))
   -- with any two bits turned it is found invalid in either mode
   pub two-turned : (m : Mode) (i j : ℕ) → i < 8 → j < 8 → (i ≡ j → ⊥) → Invalid m (bitXor (bitXor header (2 ^ i)) (2 ^ j))
 

@@ -28,7 +28,7 @@ corrects Detection = false
 -- What a reader finds: a header that holds, one with a bit to turn back, or one that is invalid.
 -- By the mode, by whether the syndrome is 0, and by whether the parity is violated.
 abbrev pub judged : Mode → Bool → Bool → Finding
-judged m clean odd = cond (clean && not odd) Intact (cond (corrects m && odd) Correctable Invalid)
+judged m agrees odd = cond (agrees && not odd) Intact (cond (corrects m && odd) Correctable Invalid)
 
 unfoldable pub finding : Mode → ℕ → Finding
 finding m octet = judged m (eqb (syndromeOf octet) 0) (violated octet)
@@ -40,13 +40,13 @@ answered Correctable octet = fieldsOf (bitXor octet (namedBy (syndromeOf octet))
 answered Invalid octet = fieldsOf octet false
 
 -- The mode that follows.
-abbrev pub moved : Finding → Mode
-moved Intact = Correction
-moved Correctable = Detection
-moved Invalid = Detection
+abbrev pub nextMode : Finding → Mode
+nextMode Intact = Correction
+nextMode Correctable = Detection
+nextMode Invalid = Detection
 
 unfoldable pub reading : Mode → ℕ → Reading
 reading m octet = answered (finding m octet) octet
 
 unfoldable pub modeAfter : Mode → ℕ → Mode
-modeAfter m octet = moved (finding m octet)
+modeAfter m octet = nextMode (finding m octet)

@@ -1,6 +1,6 @@
 // The CRC, the bit that a syndrome names, and sealing.
 ghost use mathlib.Core.Path.{_≡_};
-ghost use Prim.Native.Nat.{ℕ, _<_};
+ghost use Prim.Native.Nat.{_<_};
 ghost use Rattle.std.specs.Vec.{made};
 ghost use Rattle.header.specs.Code.{crcOf, syndromeOf, namedBy, sealed, sealing};
 ghost use Rattle.header.specs.Laws.{Formed, Protected};

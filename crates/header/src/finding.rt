@@ -1,7 +1,6 @@
 // What a reader finds in one header octet, and what follows from it.
 ghost use mathlib.Core.Path.{_≡_};
-ghost use Prim.Native.Nat.{ℕ};
-ghost use Rattle.header.specs.Reading.{judged, fieldsOf, answered, moved};
+ghost use Rattle.header.specs.Reading.{judged, fieldsOf, answered, nextMode};
 use crate::code::named_bit;
 use crate::reader::Mode;
 use crate::reader::Reading;
@@ -16,11 +15,11 @@ pub(crate) enum Finding {
 }
 
 impl Finding {
-    /// By the mode, by whether the syndrome is 0, and by whether the number of ones is odd.
-    pub(crate) fn judge(mode: Mode, clean: bool, odd: bool) -> Finding
-        ensures { λ r. ⌜ r ≡ judged mode clean odd ⌝ }
+    /// By the mode, by whether the CRC agrees (syndrome 0), and by whether the number of ones is odd.
+    pub(crate) fn judge(mode: Mode, agrees: bool, odd: bool) -> Finding
+        ensures { λ r. ⌜ r ≡ judged mode agrees odd ⌝ }
     {
-        match (mode, clean, odd) {
+        match (mode, agrees, odd) {
             (_, true, false) => Finding::Intact,
             (Mode::Correction, _, true) => Finding::Correctable,
             _ => Finding::Invalid,
@@ -40,7 +39,7 @@ impl Finding {
 
     /// The mode that follows.
     pub(crate) fn next_mode(self) -> Mode
-        ensures { λ r. ⌜ r ≡ moved self ⌝ }
+        ensures { λ r. ⌜ r ≡ nextMode self ⌝ }
     {
         match self {
             Finding::Intact => Mode::Correction,

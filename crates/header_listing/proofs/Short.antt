@@ -1,9 +1,7 @@
 -- Every line fits into the room of a line. Assumes nothing.
 use mathlib.Core.Bool.{Bool, true, false}
-use mathlib.Core.List.{List, [], _∷_, _++_}
-use Prim.Native.Nat.{ℕ, _≤_}
+use Prim.Native.Nat.{_≤_}
 use native.Mathlib.Omega.{arith}
-use lib.Chars.{codes}
 use lib.ListN.{length, length-append}
 use Rattle.std.specs.Written.{decimal}
 use Rattle.header.specs.declared.reader.Mode.{Mode}

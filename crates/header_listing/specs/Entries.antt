@@ -1,9 +1,9 @@
 -- What a listing finds in one octet, and how it goes on.
-use mathlib.Core.Bool.{Bool, true, false, cond, not, _&&_}
+use mathlib.Core.Bool.{Bool, cond, not, _&&_}
 use Prim.Native.Nat.{ℕ, _+_, _-_, _^_, min}
 use Rattle.header.specs.declared.reader.Mode.{Mode}
-use Rattle.header.specs.declared.reader.Mode.the-variants.{Correction, Detection}
-use Rattle.header.specs.Reading.{reading, modeAfter}
+use Rattle.header.specs.declared.reader.Mode.the-variants.{Correction}
+use Rattle.header.specs.Reading.{corrects, reading, modeAfter}
 use Rattle.header_listing.specs.declared.entry.Entry.{Entry}
 use Rattle.header_listing.specs.declared.listing.Listing.{Listing}
 use Rattle.header_listing.specs.declared.listing.Tally.{Tally}
@@ -12,16 +12,12 @@ use Rattle.header_listing.specs.declared.listing.Tally.{Tally}
 abbrev pub entryOf : Mode → ℕ → Entry
 entryOf m octet = record { octet = octet; reading = reading m octet; mode = modeAfter m octet }
 
-abbrev pub detects : Mode → Bool
-detects Correction = false
-detects Detection = true
-
 abbrev pub isInvalid : Entry → Bool
 isInvalid e = not (e .reading .valid)
 
 -- a bit was turned back: the header is valid, and detection mode follows
 abbrev pub isCorrected : Entry → Bool
-isCorrected e = e .reading .valid && detects (e .mode)
+isCorrected e = e .reading .valid && not (corrects (e .mode))
 
 -- a number that stops at the largest of 64 bits
 abbrev pub capped : ℕ → ℕ

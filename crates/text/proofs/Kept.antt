@@ -1,7 +1,7 @@
 -- What a line keeps, octet by octet and piece by piece. Assumes nothing.
-use mathlib.Core.Path.{_≡_, refl, sym, ap, _∙_}
+use mathlib.Core.Path.{_≡_, sym, ap, _∙_}
 use mathlib.Core.List.{List, [], _∷_, _++_, append-assoc, append-nil}
-use mathlib.Core.Logic.{_⊎_, inl, inr, ⊎-elim}
+use mathlib.Core.Logic.{_⊎_, ⊎-elim}
 use Prim.Native.Nat.{ℕ, _+_, _≤_, _<_, _/_, _%_, _^_}
 use native.Mathlib.Omega.{arith}
 use lib.ListN.{length, take, set, getD, length-take, length-append}
@@ -71,14 +71,14 @@ kept-none xs n h =
     sym (ap kept (append-nil (take n xs)) ∙ kept-short (take n xs) short)
 
 -- pieces pushed one after the other, from the text t to the text u
-abbrev pub Pushed : List ℕ → List (List ℕ) → List ℕ → Type 0
-Pushed t [] u = u ≡ kept t
-Pushed t (p ∷ ps) u = (v : List ℕ) × (v ≡ kept (t ++ p)) × Pushed v ps u
+pub data Pushed : List ℕ → List (List ℕ) → List ℕ → Type 0 where
+  done : {t u : List ℕ} → u ≡ kept t → Pushed t [] u
+  more : {t p v u : List ℕ} {ps : List (List ℕ)} → v ≡ kept (t ++ p) → Pushed v ps u → Pushed t (p ∷ ps) u
 
 pub all-pushed : (t : List ℕ) (ps : List (List ℕ)) (u : List ℕ) → Pushed t ps u → u ≡ kept (t ++ joined ps)
-all-pushed t [] u e = e ∙ sym (ap kept (append-nil t))
-all-pushed t (p ∷ ps) u (v, e, more) =
-    all-pushed v ps u more ∙ ap (λ zs. kept (zs ++ joined ps)) e ∙ kept-kept (t ++ p) (joined ps) ∙ ap kept (append-assoc t p (joined ps))
+all-pushed t [] u (done e) = e ∙ sym (ap kept (append-nil t))
+all-pushed t (p ∷ ps) u (more {v = v} e rest) =
+    all-pushed v ps u rest ∙ ap (λ zs. kept (zs ++ joined ps)) e ∙ kept-kept (t ++ p) (joined ps) ∙ ap kept (append-assoc t p (joined ps))
 
 -- the same, onto an empty line, where all of it fits
 pub line-of : (t : List ℕ) (ps : List (List ℕ)) (u : List ℕ) → t ≡ [] → length (joined ps) ≤ 96 → Pushed t ps u → u ≡ joined ps

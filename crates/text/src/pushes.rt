@@ -1,7 +1,7 @@
 // Making a line, piece by piece.
 ghost use mathlib.Core.Path.{_≡_};
-ghost use mathlib.Core.List.{List, [], _∷_, _++_};
-ghost use Prim.Native.Nat.{ℕ, _<_, _≤_};
+ghost use mathlib.Core.List.{[], _∷_, _++_};
+ghost use Prim.Native.Nat.{_<_, _≤_};
 ghost use lib.ListN.{length};
 ghost use Rattle.std.specs.Written.{decimal};
 ghost use Rattle.text.specs.Lines.{textOf, kept, hexDigit, hexOf};

@@ -1,5 +1,6 @@
-use Rattle.examples.proofs.Headers.{headers-hold}
+use Rattle.examples.proofs.Headers.{header-examples}
+use Rattle.examples.proofs.Listings.{listing-examples}
 use Rattle.examples.proofs.examples_hold.Needs as need
 
 pub returns : need.returns
-returns c = record { headers = headers-hold }
+returns c = record { headers = header-examples; listings = listing-examples }
