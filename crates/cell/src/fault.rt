@@ -23,7 +23,7 @@ pub enum Refusal {
     SpoolRecord,
     /// The number of a fate is over 256.
     FateNumber,
-    /// The plan has all the fates that it can hold.
+    /// The plan has 64 fates, which is all that it can hold.
     PlanFull,
     /// No fate is written at the place given.
     NoFate,
