@@ -44,10 +44,18 @@ impl Line {
         ensures text { λ _. ⌜ textOf (now (self .exit)) ≡ kept (textOf (now (self .entry)) ++ decimal n) ⌝ }
         ensures digits { λ _. ⌜ length (decimal n) ≤ 20 ⌝ }
     {
+        self.push_digits(n);
+    }
+
+    // The digits of a number, the last one after all the others.
+    fn push_digits(&mut self, n: u64)
+        ensures text { λ _. ⌜ textOf (now (self .exit)) ≡ kept (textOf (now (self .entry)) ++ decimal n) ⌝ }
+        ensures digits { λ _. ⌜ length (decimal n) ≤ 20 ⌝ }
+    {
         if n < 10 {
             self.push(b'0' + n as u8);
         } else {
-            self.push_decimal(n / 10);
+            self.push_digits(n / 10);
             self.push(b'0' + (n % 10) as u8);
         }
     }

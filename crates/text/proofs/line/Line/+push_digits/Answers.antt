@@ -2,7 +2,7 @@ use Prim.Native.Nat.{_<_, _≤_, _^_}
 use native.Mathlib.Omega.{arith}
 use Rattle.text.specs.Lines.{textOf}
 use Rattle.text.proofs.Kept.{kept-digit, kept-digits, few-digits}
-use Rattle.text.proofs.line.Line.+push_decimal.Needs as need
+use Rattle.text.proofs.line.Line.+push_digits.Needs as need
 
 pub returns-then-n-lt10 : need.returns-then-n-lt10
 returns-then-n-lt10 t c =
@@ -20,6 +20,6 @@ returns-else-n-lt10 t c =
     let more : 10 ≤ n = omega arith in
     let fits : n < 2 ^ 64 = omega arith in
     record {
-      text = kept-digits (textOf (c .args .self .now)) (textOf (c .push-decimal .last .self)) (textOf (c .push-else-n-lt10 .last .self)) n more fits (cc (c .push-decimal .ensures .text)) (cc (c .push-else-n-lt10 .ensures));
+      text = kept-digits (textOf (c .args .self .now)) (textOf (c .push-digits .last .self)) (textOf (c .push-else-n-lt10 .last .self)) n more fits (cc (c .push-digits .ensures .text)) (cc (c .push-else-n-lt10 .ensures));
       digits = few-digits n fits;
     }
