@@ -1,4 +1,4 @@
-// The worked examples of the rules, all in one list: proved of the definitions, and run through the code.
+// The worked examples of the rules, all in one list and proved. The tests run some of them through the code.
 ghost use Rattle.examples.specs.Examples.{Examples};
 
 /// Every example of the list holds. The function does nothing: its promise is the theorem.

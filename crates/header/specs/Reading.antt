@@ -21,6 +21,7 @@ modeName Detection = codes "detection"
 abbrev pub fieldsOf : ℕ → Bool → Reading
 fieldsOf octet valid = record { csi = octet / 128; count = octet / 16 % 8; valid = valid }
 
+-- whether one turned bit is turned back in this mode
 abbrev pub corrects : Mode → Bool
 corrects Correction = true
 corrects Detection = false
