@@ -1,0 +1,3 @@
+pub mod Fates
+pub mod Meaning
+pub mod Queues

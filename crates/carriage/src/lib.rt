@@ -1,0 +1,9 @@
+// A carriage takes cells from a near end to a far end. What every carriage keeps to, and the queue, the simplest one.
+mod carriage;
+mod fate;
+mod queue;
+
+pub use carriage::Carriage;
+pub use fate::Fate;
+pub use queue::Queue;
+pub use queue::QueueCarriage;

@@ -1,0 +1,3 @@
+pub mod Records
+pub mod Surveys
+pub mod Spools
