@@ -3,7 +3,7 @@ use Rattle.carriage.specs.declared.fate.Fate.the-variants.{Turn}
 use Rattle.carriage.specs.Fates.{nextFate}
 use Rattle.line.specs.Plans.{ahead}
 use Rattle.line.proofs.Puts.{put-passed, stored-passed}
-use Rattle.line.proofs.over.LineCarriage.put.Needs as need
+use Rattle.line.proofs.carried.LineCarriage.put.Needs as need
 
 pub returns-in-Turn : need.returns-in-Turn
 returns-in-Turn g c =
