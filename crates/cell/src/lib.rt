@@ -3,6 +3,8 @@ mod fault;
 mod octets;
 
 pub use fault::Fault;
+pub use fault::FaultDebug;
+pub use fault::FaultPartialEq;
 pub use fault::Part;
 pub use fault::Refusal;
 pub use octets::Cell;

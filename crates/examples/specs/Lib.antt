@@ -1,3 +1,5 @@
 pub mod Headers
 pub mod Listings
+pub mod Lines
+pub mod Spools
 pub mod Examples

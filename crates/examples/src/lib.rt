@@ -1,6 +1,12 @@
 // The worked examples of the rules, all in one list and proved. The tests run some of them through the code.
 ghost use Rattle.examples.specs.Examples.{Examples};
 
+mod loans;
+
+pub use loans::push_one;
+pub use loans::put_one;
+pub use loans::store_one;
+
 /// Every example of the list holds. The function does nothing: its promise is the theorem.
 pub fn examples_hold()
     ensures { λ _. ⌜ Examples ⌝ }
@@ -8,10 +14,19 @@ pub fn examples_hold()
 
 #[cfg(test)]
 mod tests {
+    use carriage::Carriage;
     use cell::Cell;
+    use cell::Fault;
+    use cell::FaultDebug;
+    use cell::FaultPartialEq;
+    use cell::Part;
+    use cell::Refusal;
     use header::Mode;
     use header::Reader;
     use header::seal;
+    use ring::Ring;
+    use spool::Spool;
+    use spool::SpoolCarriage;
     use std::test::*;
 
     // CSI, count and validity of an octet read in a mode.
@@ -52,5 +67,50 @@ mod tests {
         check_eq(seal(1, 7).ok(), Some(0xff))?;
         check_eq(seal(2, 0).ok(), None)?;
         check_eq(seal(0, 8).ok(), None)
+    }
+
+    // An entry of another kind than a cell.
+    #[derive(Clone, Copy, PartialEq, Eq, Debug)]
+    struct Item {
+        octet: u8,
+        good: bool,
+    }
+
+    fn good(octet: u8) -> Item {
+        Item { octet, good: true }
+    }
+
+    #[test]
+    fn ring_goes_round() -> Result<(), Fail> {
+        let mut slots = [good(0); 3];
+        {
+            let mut ring = Ring::new(&mut slots);
+            ring.push(good(1))?;
+            ring.push(good(2))?;
+            check_eq(ring.pop(), Ok(good(1)))?;
+            ring.push(good(3))?;
+            ring.push(good(4))?;
+            check_eq(
+                ring.push(good(5)),
+                Err(Fault::new(Refusal::Full, Part::Ring)),
+            )?;
+            check_eq(ring.first(), Ok(good(2)))?;
+        }
+        check_eq(slots, [good(4), good(2), good(3)])
+    }
+
+    #[test]
+    fn spool_goes_on() -> Result<(), Fail> {
+        let mut bytes = [0u8; 100];
+        let mut spool = Spool::new(&mut bytes);
+        check_eq(spool.room(), 0)?;
+        spool.open()?;
+        check_eq(spool.room(), 2)?;
+        spool.put(Cell { octets: [0x17; 48] })?;
+        spool.drop_first()?;
+        check_eq(spool.room(), 1)?;
+        check_eq(spool.waiting(), 0)?;
+        spool.open()?;
+        check_eq(spool.room(), 1)
     }
 }

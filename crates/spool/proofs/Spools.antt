@@ -22,7 +22,7 @@ use Rattle.spool.specs.declared.spool.Spool.{Spool}
 use Rattle.spool.specs.declared.survey.Survey.{Survey}
 use Rattle.spool.specs.Records.{Marked, Within, recordAt, cellAt, parted, recordOf, withRecord}
 use Rattle.spool.specs.Spools.{bytesOf, loanOf, cellsIn, meaningIn, spoolMeaning, IsOpen, Stored, Freed}
-use Rattle.spool.specs.Surveys.{surveyOf, recordsOf, markIn, SpoolLong, Whole, Surveyed}
+use Rattle.spool.specs.Surveys.{surveyOf, recordsOf, markIn, GoodLength, Whole, Surveyed}
 use Rattle.spool.proofs.Records.{length-record, length-with, record-there, record-elsewhere}
 use Rattle.spool.proofs.Surveys.{is-taken, is-waiting, opens-again}
 
@@ -51,7 +51,7 @@ remarked bytes s more number mark cell l n same others this w =
     let fifty : length new ≡ 50 = omega arith in
     let len : length (withRecord bytes number new) ≡ length bytes = length-with bytes new number within fifty in
     record {
-      long = subst SpoolLong (sym len) (w .long);
+      long = subst GoodLength (sym len) (w .long);
       all = omega arith;
       ordered = λ k m. ⊎-elim
           (λ (e : k ≡ number).

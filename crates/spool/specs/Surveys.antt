@@ -50,8 +50,8 @@ counted s (Some Unused) = Some (surveyOf (s .taken) (s .waiting) (s .unused + 1)
 counted s None = None
 
 -- a length that a spool can have: one record or more, and at most 65,500 bytes
-abbrev pub SpoolLong : ℕ → Type 0
-SpoolLong len = (0 < len) × (len % 50 ≡ 0) × (len ≤ 65500)
+abbrev pub GoodLength : ℕ → Type 0
+GoodLength len = (0 < len) × (len % 50 ≡ 0) × (len ≤ 65500)
 
 -- A record with this mark may not stand behind those of the survey:
 -- it has another mark, or is taken behind one that waits or is unused, or waits behind one that is unused.
@@ -63,20 +63,20 @@ Misplaced s (Some Unused) = ⊥
 
 -- The bytes are records in order, all of them.
 pub record Whole (bytes : List ℕ) (s : Survey) : Type 0 where
-  pub long : SpoolLong (length bytes)
+  pub long : GoodLength (length bytes)
   pub all : 50 * recordsOf s ≡ length bytes
   pub ordered : Ordered bytes s
 
 -- The records before the one at this place are in order, and that one may not stand behind them.
 pub record Broken (bytes : List ℕ) (place : ℕ) : Type 0 where
-  pub long : SpoolLong (length bytes)
+  pub long : GoodLength (length bytes)
   pub within : Within (length bytes) place
   pub before : (s : Survey) × (recordsOf s ≡ place) × Ordered bytes s × Misplaced s (markAt bytes place)
 
 -- Refused exactly if no spool has this length, and then exactly if a record may not stand where it stands.
 abbrev pub Surveyed : List ℕ → Result Survey Fault → Type 0
 Surveyed bytes (Ok s) = Whole bytes s
-Surveyed bytes (Err fault) = ((SpoolLong (length bytes) → ⊥) × (fault ≡ raised SpoolLength part.Spool 0)) ⊎ ((place : ℕ) × Broken bytes place × (fault ≡ raised SpoolRecord part.Spool place))
+Surveyed bytes (Err fault) = ((GoodLength (length bytes) → ⊥) × (fault ≡ raised SpoolLength part.Spool 0)) ⊎ ((place : ℕ) × Broken bytes place × (fault ≡ raised SpoolRecord part.Spool place))
 
 -- No other answer fits these bytes.
 abbrev pub OnlyAnswer : List ℕ → Result Survey Fault → Type 0

@@ -9,7 +9,7 @@ use Rattle.cell.specs.declared.fault.Part.the-variants as part
 use Rattle.cell.specs.declared.fault.Refusal.the-variants.{SpoolRecord}
 use Rattle.spool.specs.declared.record.Record.{Record}
 use Rattle.spool.specs.Records.{markAt, Within}
-use Rattle.spool.specs.Surveys.{SpoolLong, Misplaced, Whole, Surveyed}
+use Rattle.spool.specs.Surveys.{GoodLength, Misplaced, Whole, Surveyed}
 use Rattle.spool.proofs.Surveys.{counts-one, counts-none, one-answer}
 use Rattle.spool.proofs.survey.Survey.of.Needs as need
 use Rattle.spool.proofs.survey.Survey.of.Needs.{then-len-eq0·by·then-len-eq0, then-len-eq0·by·else-len-eq0·then-len-ne0, then-len-eq0·by·else-len-eq0·else-len-ne0·then-len-gt65500}
@@ -17,7 +17,7 @@ use Rattle.spool.proofs.survey.Survey.of.Needs.{then-len-eq0·by·then-len-eq0
 pub returns-then-len-eq0 : need.returns-then-len-eq0
 returns-then-len-eq0 c =
     let len : ℕ = length (c .args .bytes .now) in
-    let short : (SpoolLong len → ⊥) = elim (c .then-len-eq0 .came) [
+    let short : (GoodLength len → ⊥) = elim (c .then-len-eq0 .came) [
       | then-len-eq0·by·then-len-eq0 w ↦ λ long. omega (arith, w .if-len-eq0 .taken)
       | then-len-eq0·by·else-len-eq0·then-len-ne0 w ↦ λ long. w .if-len-ne0 .taken (long .1)
       | then-len-eq0·by·else-len-eq0·else-len-ne0·then-len-gt65500 w ↦ λ long. omega (arith, w .if-len-gt65500 .taken)
