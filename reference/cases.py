@@ -1,13 +1,11 @@
 """Every case of the header code, in the form in which the program header_cases writes them."""
 import header_code
+from refusal import refused
 
 
 def sealed(csi, count):
     answer = header_code.seal(csi, count)
-    if answer == header_code.REFUSED:
-        number, part, place = answer
-        return f"seal {csi} {count} refused {number} {part} {place}\n"
-    return f"seal {csi} {count} {answer:02X}\n"
+    return f"seal {csi} {count} {answer if refused(answer) else f'{answer:02X}'}\n"
 
 
 def read(mode, octet):

@@ -1,10 +1,11 @@
 """The header code, from docs/rules/header-code.md alone. Bits are lists, the most significant first."""
 import functools
 
+from refusal import Refusal
+
 CORRECTION, DETECTION = "correction", "detection"
 
-# Refusal 6, part header code, place 0.
-REFUSED = (6, "header code", 0)
+REFUSED = Refusal(6, "header code")
 
 
 def to_bits(number, width):
@@ -32,7 +33,7 @@ def crc(leading):
 
 @functools.cache
 def seal(csi, count):
-    """The header octet, or a refusal (number, part, place)."""
+    """The header octet, or the refusal."""
     if csi > 1 or count > 7:
         return REFUSED
     leading = [csi] + to_bits(count, 3)

@@ -1,7 +1,6 @@
 -- A push into a ring of cells is a put into a carriage.
-use Prim.Native.Nat.{ℕ, _+_, _-_, _≤_}
 use mathlib.Core.Path.{_≡_, refl, sym, ap, _∙_}
-use mathlib.Core.List.{List, [], _∷_, _++_}
+use mathlib.Core.List.{[], _∷_, _++_}
 use native.Mathlib.Omega.{arith}
 use lib.ListN.{length, length-set}
 use Rattle.std.proofs.shelf.Lists.{length-push}
@@ -12,7 +11,6 @@ use Rattle.cell.proofs.Cells.{turned-none}
 use Rattle.cell.specs.declared.fault.Fault.{Fault}
 use Rattle.cell.specs.declared.fault.Part.the-variants as part
 use Rattle.cell.specs.declared.octets.Cell.{Cell}
-use Rattle.ring.proofs.Rings.{entries-fit}
 use Rattle.ring.specs.declared.ring.Ring.{Ring}
 use Rattle.ring.specs.Rings.{entries, slotsOf, nextSlot, Push, Pushed}
 use Rattle.carriage.specs.Meaning.{Put}
@@ -29,7 +27,7 @@ put-by-push old new cell (Ok _) p =
       fates = refl;
       room = (omega arith, omega arith);
     }
-put-by-push old new cell (Err fault) p = (let e = p .0 in omega arith, p .1, ap queueMeaning (p .2))
+put-by-push old new cell (Err fault) p = (let e = p .0 in omega arith, tt, p .1, ap queueMeaning (p .2))
 
 pub store-by-push : (old new : Ring Cell) (cell : Cell) (r : Result (Unit {0}) Fault) → Push old cell r new → Cases r (λ _. Pushed old cell new) (λ _. new ≡ old)
 store-by-push old new cell (Ok _) p = p

@@ -1,3 +1,4 @@
 pub mod Fates
 pub mod Meaning
 pub mod Queues
+pub mod Laws

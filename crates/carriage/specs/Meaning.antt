@@ -8,6 +8,7 @@ use Rattle.std.specs.declared.result.Result.the-variants.{Ok, Err}
 use Rattle.cell.specs.Faults.{raised}
 use Rattle.cell.specs.declared.fault.Fault.{Fault}
 use Rattle.cell.specs.declared.fault.Part.{Part}
+use Rattle.cell.specs.declared.fault.Part.the-variants.{HeaderCode, Ring, Spool, Plan, NearEnd, FarEnd, Carriage}
 use Rattle.cell.specs.declared.fault.Refusal.the-variants.{Full, Empty}
 use Rattle.cell.specs.declared.octets.Cell.{Cell}
 use Rattle.carriage.specs.declared.fate.Fate.{Fate}
@@ -40,17 +41,27 @@ pub record DroppedCell (old new : Meaning) : Type 0 where
   pub fates : new .fates ≡ old .fates
   pub room : RoomAfterDrop (old .room) (new .room)
 
+-- the parts that a refusal of a carriage may name: the ring, the spool, or a carriage from elsewhere
+abbrev pub OfCarriage : Part → Type 0
+OfCarriage Ring = Unit {0}
+OfCarriage Spool = Unit {0}
+OfCarriage Carriage = Unit {0}
+OfCarriage HeaderCode = ⊥
+OfCarriage Plan = ⊥
+OfCarriage NearEnd = ⊥
+OfCarriage FarEnd = ⊥
+
 -- A put is refused exactly if there is no room, and then changes nothing.
 abbrev pub Put : Part → Cell → Meaning → Result (Unit {0}) Fault → Meaning → Type 0
 Put part cell old (Ok _) new = PutCell cell old new
-Put part cell old (Err fault) new = (old .room ≡ 0) × (fault ≡ raised Full part 0) × (new ≡ old)
+Put part cell old (Err fault) new = (old .room ≡ 0) × OfCarriage part × (fault ≡ raised Full part 0) × (new ≡ old)
 
 -- The first cell that waits; refused exactly if none waits.
 abbrev pub Look : Part → Meaning → Result Cell Fault → Type 0
 Look part old (Ok cell) = old .waiting ≡ cell ∷ drop 1 (old .waiting)
-Look part old (Err fault) = (old .waiting ≡ []) × (fault ≡ raised Empty part 0)
+Look part old (Err fault) = (old .waiting ≡ []) × OfCarriage part × (fault ≡ raised Empty part 0)
 
 -- A drop is refused exactly if none waits, and then changes nothing.
 abbrev pub DropFirst : Part → Meaning → Result (Unit {0}) Fault → Meaning → Type 0
 DropFirst part old (Ok _) new = DroppedCell old new
-DropFirst part old (Err fault) new = (old .waiting ≡ []) × (fault ≡ raised Empty part 0) × (new ≡ old)
+DropFirst part old (Err fault) new = (old .waiting ≡ []) × OfCarriage part × (fault ≡ raised Empty part 0) × (new ≡ old)

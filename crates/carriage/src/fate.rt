@@ -1,6 +1,5 @@
 // What becomes of a cell on its way.
 ghost use mathlib.Core.Path.{_≡_};
-ghost use Rattle.std.specs.Options.{Cases as BySome};
 ghost use Rattle.carriage.specs.Fates.{numberOf, fateOf};
 
 /// The fate of one cell: the header bits that are turned, or lost.

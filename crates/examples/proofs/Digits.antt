@@ -1,5 +1,4 @@
 -- Numbers of one digit, written.
-use Prim.Native.Nat.{_+_}
 use mathlib.Core.List.{[], _∷_}
 use mathlib.Core.Path.{_≡_}
 use native.Mathlib.Omega.{arith}
@@ -12,8 +11,14 @@ digit-0 = decimal-digit 0 (omega arith)
 pub digit-1 : decimal 1 ≡ 49 ∷ []
 digit-1 = decimal-digit 1 (omega arith)
 
+pub digit-2 : decimal 2 ≡ 50 ∷ []
+digit-2 = decimal-digit 2 (omega arith)
+
 pub digit-3 : decimal 3 ≡ 51 ∷ []
 digit-3 = decimal-digit 3 (omega arith)
+
+pub digit-5 : decimal 5 ≡ 53 ∷ []
+digit-5 = decimal-digit 5 (omega arith)
 
 pub digit-7 : decimal 7 ≡ 55 ∷ []
 digit-7 = decimal-digit 7 (omega arith)

@@ -1,5 +1,5 @@
 pub mod Headers
-pub mod Listings
+pub mod HeaderListings
 pub mod Lines
-pub mod Spools
+pub mod SpoolListings
 pub mod Digits

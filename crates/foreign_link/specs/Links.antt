@@ -1,5 +1,5 @@
 -- What a link means, and what put and drop make of it.
-use Prim.Native.Nat.{ℕ, zero, suc, _-_}
+use Prim.Native.Nat.{ℕ, zero, suc}
 use mathlib.Core.List.{List, [], _∷_}
 use lib.ListN.{replicate}
 use Rattle.std.specs.declared.option.Option.{Option}

@@ -1,4 +1,4 @@
-// The link as a carriage. A cell that is lost takes no room, and a drop gives room back.
+// Making a link, and the link as a carriage. A cell that is lost takes no room, and a drop gives room back.
 ghost use mathlib.Core.Path.{_≡_};
 ghost use Rattle.cell.specs.declared.fault.Part.the-variants.{Carriage as Foreign};
 ghost use Rattle.foreign_link.specs.Links.{opened, linkMeaning, stored, freed};

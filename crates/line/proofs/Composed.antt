@@ -1,10 +1,9 @@
 -- A line over a carriage: what the two make of cells.
-use Prim.Native.Nat.{ℕ, zero, suc, _+_}
+use Prim.Native.Nat.{ℕ, suc}
 use mathlib.Core.Path.{_≡_, refl, sym, ap, _∙_}
 use mathlib.Core.List.{List, [], _∷_, _++_}
 use native.Mathlib.Omega.{arith}
 use native.Mathlib.Numerals.{one-add}
-use lib.Bits.{bitXor}
 use lib.ListN.{length, drop}
 use Rattle.std.proofs.shelf.Lists.{drop-drop}
 use Rattle.cell.proofs.Cells.{turned-none, turned-twice}
@@ -30,21 +29,11 @@ arriving-composed (Turn m ∷ own) below mask cell e =
     arriving-meeting (nextFate below) mask cell ∙ ap (λ (k : ℕ). arriving (meeting k (nextFate below)) cell) z
 arriving-composed (Lost ∷ own) below mask cell e = let z : _≡_ {A = ℕ} 0 1 = cc in absurd (omega arith)
 
--- the fates left once a cell has passed the line, and once it was lost there
+-- the fates left once a cell has passed the line
 pub later-passed : (own below : List Fate) (mask : ℕ) → nextFate own ≡ Turn mask → composed (laterFates own) (laterFates below) ≡ laterFates (composed own below)
 later-passed [] below mask e = refl
 later-passed (Turn m ∷ own) below mask e = refl
 later-passed (Lost ∷ own) below mask e = let z : _≡_ {A = ℕ} 0 1 = cc in absurd (omega arith)
-
-pub next-lost : (own below : List Fate) → nextFate own ≡ Lost → nextFate (composed own below) ≡ Lost
-next-lost [] below e = let z : _≡_ {A = ℕ} 0 1 = cc in absurd (omega arith)
-next-lost (Turn m ∷ own) below e = let z : _≡_ {A = ℕ} 0 1 = cc in absurd (omega arith)
-next-lost (Lost ∷ own) below e = refl
-
-pub later-lost : (own below : List Fate) → nextFate own ≡ Lost → composed (laterFates own) below ≡ laterFates (composed own below)
-later-lost [] below e = let z : _≡_ {A = ℕ} 0 1 = cc in absurd (omega arith)
-later-lost (Turn m ∷ own) below e = let z : _≡_ {A = ℕ} 0 1 = cc in absurd (omega arith)
-later-lost (Lost ∷ own) below e = refl
 
 -- with no fates of its own a line passes every cell on as it is
 arrivals-none : (cells : List Cell) → arrivals [] cells ≡ cells

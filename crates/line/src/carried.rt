@@ -1,4 +1,4 @@
-// The line as a carriage, over any other.
+// Making a line, and the line as a carriage, over any other.
 ghost use mathlib.Core.Path.{_≡_};
 ghost use denote.Ref.{now, name};
 ghost use Rattle.line.specs.Lines.{lineMeaning, StoresThrough, FreesThrough, Composes};

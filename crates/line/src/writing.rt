@@ -5,8 +5,9 @@ ghost use Prim.Native.Nat.{_<_, _≤_};
 ghost use denote.Follow.{follows-if};
 ghost use denote.Ref.{name};
 ghost use ghost.Atoms.{sem};
+ghost use lib.ListN.{getD};
 ghost use Rattle.std.specs.Changed.{nameOf, with-item};
-ghost use Rattle.std.specs.Of.Vec.{vec-len, vec-cap};
+ghost use Rattle.std.specs.Of.Vec.{vec-items, vec-len, vec-cap};
 ghost use Rattle.std.specs.Options.{Cases as BySome};
 ghost use Rattle.std.specs.Results.{Cases};
 ghost use Rattle.carriage.specs.contracts.fate.Fate.{the-row as fateRow};
@@ -26,7 +27,7 @@ impl Table {
     // The fate that is written at a place, lent to be changed.
     fn entry(&mut self, place: usize) -> Option<&mut Fate>
         ensures lends { λ r. sem 𝓤 H A (follows-if the-row fateRow (name (self .entry)) (nameOf r) (λ fate. record { fates = with-item (now (self .entry) .fates) place fate }) (now (self .entry))) }
-        ensures found { λ r. ⌜ BySome r (vec-len (now (self .entry) .fates) ≤ place) (λ _. place < vec-len (now (self .entry) .fates)) ⌝ }
+        ensures found { λ r. ⌜ BySome r (vec-len (now (self .entry) .fates) ≤ place) (λ lent. (place < vec-len (now (self .entry) .fates)) × (now lent ≡ getD (vec-items (now (self .entry) .fates)) place (now lent))) ⌝ }
     {
         self.fates.get_mut(place)
     }

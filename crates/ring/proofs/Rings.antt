@@ -1,24 +1,20 @@
 -- Laws of a ring: a push joins the end, a pop takes the oldest.
 use Prim.Native.Nat.{ℕ, _+_, _-_, _<_, _≤_}
-use mathlib.Core.Path.{_≡_, refl, sym, _∙_, ap}
-use mathlib.Core.List.{List, [], _∷_, _++_}
+use mathlib.Core.Path.{_≡_, sym, _∙_, ap}
+use mathlib.Core.List.{List, [], _∷_}
 use mathlib.Core.Logic.{_⊎_, ⊎-elim}
 use native.Mathlib.Omega.{arith}
 use native.Mathlib.Nat.{zero-mod}
 use lib.ListN.{length, set, getD, drop, length-set}
 use Rattle.std.proofs.shelf.Lists.{nil-from-length}
-use Rattle.ring.specs.Turning.{held, slotAfter}
+use Rattle.ring.specs.Round.{held, slotAfter}
 use Rattle.ring.specs.Rings.{entries, slotsOf, loanOf, nextSlot, Pushed, Popped}
 use Rattle.ring.specs.declared.ring.Ring.{Ring}
-use Rattle.ring.proofs.Turns.{length-held, held-push, slotAfter-push, held-pop, held-wrap, slotAfter-pop, slotAfter-wrap, slotAfter-near, slotAfter-far}
+use Rattle.ring.proofs.Round.{length-held, held-push, slotAfter-push, held-pop, held-wrap, slotAfter-pop, slotAfter-wrap, slotAfter-near, slotAfter-far}
 
 pub length-entries : {T : Type 0} (r : Ring T) → length (entries r) ≡ r .count
 unfolding entries
 length-entries r = length-held (slotsOf r) (r .head) (r .count) (r .fits .0)
-
--- there are no more entries than slots
-pub entries-fit : {T : Type 0} (r : Ring T) → length (entries r) ≤ length (slotsOf r)
-entries-fit r = let n = length-entries r in let f = r .fits .0 in omega arith
 
 pub none-entered : {T : Type 0} (r : Ring T) → r .count ≡ 0 → entries r ≡ []
 none-entered r e = nil-from-length (entries r) (length-entries r ∙ e)

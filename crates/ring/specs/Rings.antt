@@ -11,7 +11,7 @@ use Rattle.cell.specs.Faults.{raised}
 use Rattle.cell.specs.declared.fault.Fault.{Fault}
 use Rattle.cell.specs.declared.fault.Part.the-variants as part
 use Rattle.cell.specs.declared.fault.Refusal.the-variants.{Full, Empty}
-use Rattle.ring.specs.Turning.{held, slotAfter}
+use Rattle.ring.specs.Round.{held, slotAfter}
 use Rattle.ring.specs.declared.ring.Ring.{Ring}
 
 -- the slots, as the lender sees them

@@ -4,7 +4,7 @@ ghost use mathlib.Core.List.{[]};
 ghost use Prim.Native.Nat.{_-_, _<_};
 ghost use denote.Ref.{name};
 ghost use lib.ListN.{length};
-ghost use Rattle.ring.specs.Rings.{entries, slotsOf, nextSlot, Push, Pop, First};
+ghost use Rattle.ring.specs.Rings.{entries, slotsOf, loanOf, nextSlot, Push, Pop, First};
 use crate::ring::Ring;
 use cell::Fault;
 use cell::Part;
@@ -16,7 +16,7 @@ impl<'a, T: Copy> Ring<'a, T> {
         ensures empty { λ r. ⌜ entries r ≡ [] ⌝ }
         ensures over { λ r. ⌜ slotsOf r ≡ now (slots .entry) ⌝ }
         ensures next { λ r. ⌜ nextSlot r ≡ 0 ⌝ }
-        ensures loan { λ r. ⌜ name (r .slots) ≡ name (slots .entry) ⌝ }
+        ensures loan { λ r. ⌜ loanOf r ≡ name (slots .entry) ⌝ }
     {
         Ring {
             slots,

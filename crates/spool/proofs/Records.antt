@@ -14,12 +14,12 @@ use Rattle.std.proofs.shelf.Parts.{take-putMid-below, drop-putMid, between-putM
 use Rattle.std.proofs.shelf.Tests.{cases-lt}
 use Rattle.std.proofs.shelf.Ways.{tells}
 use Rattle.std.specs.declared.option.Option.{Option}
-use Rattle.std.specs.declared.option.Option.the-variants.{Some, None}
+use Rattle.std.specs.declared.option.Option.the-variants.{Some}
 use Rattle.cell.specs.declared.octets.Cell.{Cell}
 use Rattle.spool.specs.declared.record.Mark.{Mark}
 use Rattle.spool.specs.declared.record.Mark.the-variants.{Taken, Waiting, Unused}
 use Rattle.spool.specs.declared.record.Record.{Record}
-use Rattle.spool.specs.Records.{firstOf, secondOf, markBytes, markOf, recordOf, parted, Within, recordAt, Marked, markAt, cellAt, withRecord}
+use Rattle.spool.specs.Records.{firstOf, secondOf, markOf, recordOf, parted, Within, recordAt, Marked, markAt, cellAt, withRecord}
 
 abbrev pub made : Option Mark → List ℕ → Record
 made mark octets = record { mark = mark; cell = record { octets = octets } }
@@ -32,12 +32,7 @@ parted-is bytes octets mark m o = ap (λ (k : Option Mark). made k octets) m ∙
 pub ranged : (bytes : List ℕ) (number : ℕ) → take (50 * number + 50 - 50 * number) (drop (50 * number) bytes) ≡ recordAt bytes number
 ranged bytes number = let e : 50 * number + 50 - 50 * number ≡ 50 = omega arith in ap (λ (k : ℕ). take k (drop (50 * number) bytes)) e
 
--- a write to that range
-pub written : (bytes new : List ℕ) (number : ℕ) → putMid (50 * number) (50 * number + 50 - 50 * number) bytes new ≡ withRecord bytes number new
-written bytes new number =
-    let e : 50 * number + 50 - 50 * number ≡ 50 = omega arith in
-    ap (λ (k : ℕ). putMid (50 * number) k bytes new) e ∙ ap (λ (rest : List ℕ). take (50 * number) bytes ++ (new ++ rest)) (drop-drop 50 (50 * number) bytes)
-
+-- a write to the range of a record
 placed : (bytes new : List ℕ) (number : ℕ) → withRecord bytes number new ≡ putMid (50 * number) 50 bytes new
 placed bytes new number = ap (λ (rest : List ℕ). take (50 * number) bytes ++ (new ++ rest)) (sym (drop-drop 50 (50 * number) bytes))
 

@@ -34,11 +34,11 @@ recordsOf s = s .taken + s .waiting + s .unused
 abbrev pub markIn : Survey → ℕ → Mark
 markIn s number = cond (ltb number (s .taken)) Taken (cond (ltb number (s .taken + s .waiting)) Waiting Unused)
 
--- there are as many records in these bytes
+-- these bytes have room for so many records
 abbrev pub Fit : List ℕ → Survey → Type 0
 Fit bytes s = 50 * recordsOf s ≤ length bytes
 
--- and the first ones have the marks of the survey
+-- the first records have the marks of the survey
 abbrev pub Ordered : List ℕ → Survey → Type 0
 Ordered bytes s = (number : ℕ) → number < recordsOf s → Marked bytes number (markIn s number)
 

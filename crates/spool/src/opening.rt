@@ -1,7 +1,7 @@
 // Opening a spool.
 ghost use mathlib.Core.Path.{_≡_};
 ghost use denote.Ref.{name};
-ghost use Rattle.spool.specs.Spools.{bytesOf, Opened, Reopened};
+ghost use Rattle.spool.specs.Spools.{bytesOf, loanOf, Opened, Reopened};
 ghost use Rattle.spool.specs.Surveys.{nothing, Surveyed};
 use crate::spool::Spool;
 use crate::survey::Survey;
@@ -12,7 +12,7 @@ impl<'a> Spool<'a> {
     pub fn new(bytes: &'a mut [u8]) -> Spool<'a>
         ensures over { λ r. ⌜ bytesOf r ≡ now (bytes .entry) ⌝ }
         ensures closed { λ r. ⌜ r .survey ≡ nothing ⌝ }
-        ensures loan { λ r. ⌜ name (r .bytes) ≡ name (bytes .entry) ⌝ }
+        ensures loan { λ r. ⌜ loanOf r ≡ name (bytes .entry) ⌝ }
     {
         Spool {
             bytes,

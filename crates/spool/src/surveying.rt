@@ -46,6 +46,7 @@ impl Survey {
     }
 
     // One record more, behind those that were counted. None if it has another mark or may not stand behind them.
+    // A spool has at most 1,310 records, so the counts stay far from where they would not fit.
     fn with(self, mark: Option<Mark>) -> Option<Survey>
         requires { ⌜ recordsOf self < 2000 ⌝ }
         ensures { λ r. ⌜ r ≡ counted self mark ⌝ }

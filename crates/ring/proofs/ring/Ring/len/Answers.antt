@@ -1,4 +1,3 @@
-use mathlib.Core.Path.{sym}
 use Rattle.ring.proofs.Rings.{length-entries}
 use Rattle.ring.proofs.ring.Ring.len.Needs as need
 

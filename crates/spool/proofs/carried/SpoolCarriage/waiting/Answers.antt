@@ -1,4 +1,3 @@
-use mathlib.Core.Path.{sym}
 use Rattle.std.proofs.shelf.Counted.{length-map-counting}
 use Rattle.spool.specs.Records.{cellAt}
 use Rattle.spool.proofs.carried.SpoolCarriage.waiting.Needs as need

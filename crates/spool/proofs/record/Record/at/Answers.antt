@@ -1,6 +1,4 @@
-use mathlib.Core.List.{List}
 use mathlib.Core.Path.{ap, _∙_}
-use Prim.Native.Nat.{ℕ}
 use native.Mathlib.Omega.{arith}
 use Rattle.spool.specs.Records.{parted}
 use Rattle.spool.proofs.Records.{ranged}

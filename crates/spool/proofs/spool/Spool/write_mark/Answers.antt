@@ -1,7 +1,7 @@
-use Prim.Native.Nat.{ℕ, _+_, _*_}
+use Prim.Native.Nat.{ℕ}
 use mathlib.Core.Path.{refl, ap, _∙_}
 use native.Mathlib.Omega.{arith}
-use lib.ListN.{set, drop}
+use lib.ListN.{drop}
 use mathlib.Core.List.{_∷_}
 use Rattle.spool.specs.Records.{firstOf, recordAt, withRecord}
 use Rattle.spool.proofs.Records.{mark-written}

@@ -4,12 +4,12 @@ use mathlib.Core.List.{List, _++_}
 use lib.ListN.{take, drop}
 
 -- all the slots, from this one on
-abbrev pub turnedFrom : {A : Type 0} → List A → ℕ → List A
-turnedFrom slots head = drop head slots ++ take head slots
+abbrev pub roundFrom : {A : Type 0} → List A → ℕ → List A
+roundFrom slots head = drop head slots ++ take head slots
 
 -- as many of them as are in use
 abbrev pub held : {A : Type 0} → List A → ℕ → ℕ → List A
-held slots head count = take count (turnedFrom slots head)
+held slots head count = take count (roundFrom slots head)
 
 -- the slot after those in use, where there are n slots
 abbrev pub slotAfter : ℕ → ℕ → ℕ → ℕ

@@ -6,7 +6,7 @@ use Rattle.header.specs.declared.reader.Mode.the-variants.{Correction, Detectio
 use Rattle.header.specs.Reading.{reading, modeAfter}
 use Rattle.header_listing.specs.Text.{lineOf, summaryOf}
 use Rattle.header_listing.specs.Entries.{entryOf, opened}
-use Rattle.examples.specs.Listings.{ListingExamples}
+use Rattle.examples.specs.HeaderListings.{HeaderListingExamples}
 use Rattle.examples.proofs.Digits.{digit-0, digit-1}
 use Rattle.examples.proofs.Headers.{header-examples}
 
@@ -21,5 +21,5 @@ written-none : summaryOf (opened .tally) ≡ codes "read 0 corrected 0 invalid 0
 unfolding summaryOf
 written-none = simp digit-0
 
-pub listing-examples : ListingExamples
-listing-examples = record { line-07 = written-07; empty = written-none }
+pub header-listing-examples : HeaderListingExamples
+header-listing-examples = record { line-07 = written-07; empty = written-none }
