@@ -1,16 +1,48 @@
 // Runs every script of pushes and pops on rings of 0 to 4 slots, to be compared with what the reference computes.
-mod shown;
-
 use cell::Fault;
 use ring::Ring;
-use shown::Item;
-use shown::ItemDisplay;
-use shown::Refused;
-use shown::RefusedDisplay;
+use std::fmt;
 use std::fmt::Display;
 use std::io;
 use std::io::BufWriter;
 use std::io::Write;
+
+// A refusal: its number, its part and its place.
+#[derive(Clone, Copy)]
+struct Refused(Fault);
+
+impl fmt::Display for Refused as RefusedDisplay {
+    fn fmt<W: fmt::Write>(&self, f: &mut fmt::Formatter<W>) -> fmt::Result {
+        let fault = self.0;
+        write!(
+            f,
+            "refused {} {} {}",
+            fault.number(),
+            fault.part.name(),
+            fault.place
+        )
+    }
+}
+
+// An entry of another kind than a number.
+#[derive(Clone, Copy)]
+struct Item {
+    octet: u8,
+    good: bool,
+}
+
+impl Item {
+    fn new(octet: u8, good: bool) -> Item {
+        Item { octet, good }
+    }
+}
+
+impl fmt::Display for Item as ItemDisplay {
+    fn fmt<W: fmt::Write>(&self, f: &mut fmt::Formatter<W>) -> fmt::Result {
+        let sign = if self.good { '+' } else { '-' };
+        write!(f, "{}{sign}", self.octet)
+    }
+}
 
 // The entry that a call answered, or the refusal.
 fn write_answer<T: Copy + Display>(
