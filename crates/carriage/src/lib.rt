@@ -1,4 +1,6 @@
 // A carriage takes cells from a near end to a far end. What every carriage keeps to, and the queue, the simplest one.
+#![tactic(auto)]
+
 mod carriage;
 mod fate;
 mod laws;

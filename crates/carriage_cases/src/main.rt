@@ -1,4 +1,6 @@
 // Runs cases of the carriages, of lines over them and of drafts, to be compared with what the reference computes.
+#![tactic(auto)]
+
 use carriage::{Carriage, Fate, Queue};
 use cell::{Cell, Fault};
 use foreign_link::Link;

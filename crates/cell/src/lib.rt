@@ -1,4 +1,6 @@
 // The two types that every part of the product shares: what is carried, and what a refusal tells.
+#![tactic(auto)]
+
 mod fault;
 mod octets;
 

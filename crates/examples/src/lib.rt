@@ -1,4 +1,6 @@
 // The worked examples of the rules, all in one list and proved. The tests run some of them through the code.
+#![tactic(auto)]
+
 ghost use Rattle.examples.specs.Examples.{Examples};
 
 mod loans;

@@ -1,4 +1,6 @@
 // Seals and reads every case of the header code, to be compared with what the reference computes.
+#![tactic(auto)]
+
 use header::{Mode, Reader, seal};
 use std::io;
 

@@ -1,4 +1,6 @@
 // The listing of a recording's header octets: a line for each, and a last line with the numbers.
+#![tactic(auto)]
+
 mod entry;
 mod laws;
 mod listing;

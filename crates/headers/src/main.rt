@@ -1,4 +1,6 @@
 // Lists the header octets of a recording: from standard input to standard output.
+#![tactic(auto)]
+
 use header_listing::Listing;
 use std::io;
 use std::io::{BufWriter, Read, Write};

@@ -1,4 +1,6 @@
 // A line: a plan of fates over any carriage. A plan is drafted first and then started.
+#![tactic(auto)]
+
 mod carried;
 mod draft;
 mod line;

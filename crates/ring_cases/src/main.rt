@@ -1,4 +1,6 @@
 // Runs every script of pushes and pops on rings of 0 to 4 slots, to be compared with what the reference computes.
+#![tactic(auto)]
+
 use cell::Fault;
 use ring::Ring;
 use std::fmt::Display;

@@ -1,4 +1,6 @@
 // The spool: a carriage over bytes of the caller, which keeps what it was given and what was taken.
+#![tactic(auto)]
+
 mod carried;
 mod opening;
 mod record;

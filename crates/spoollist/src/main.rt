@@ -1,4 +1,6 @@
 // Lists the records of a spool: from standard input to standard output.
+#![tactic(auto)]
+
 ghost use Rattle.std.specs.Prelude.{◌≤◌, length, IfOk};
 
 use spool_listing::{Listing, refusal_line};

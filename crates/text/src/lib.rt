@@ -1,4 +1,6 @@
 // Lines of text, made without memory from an allocator.
+#![tactic(auto)]
+
 mod line;
 mod pushes;
 

@@ -12,4 +12,4 @@ returns-then-self g c =
 pub returns : goal.returns
 returns g c =
     let r = c.args.self.now in
-    pushed r _ c.args.entry (omega arith) (ap (λ (i : ℕ). set r.slots.now i c.args.entry) c.next-slot-at.ensures.value) refl refl refl
+    pushed r _ c.args.entry (omega arith) (ap (λ (i : ℕ). set r.slots.now i c.args.entry) c.next_slot-at.ensures.value) refl refl refl

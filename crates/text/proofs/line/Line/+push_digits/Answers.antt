@@ -19,6 +19,6 @@ returns-else-n-lt10 t c =
     let more : 10 ≤ n = omega arith in
     let fits : n < 2 ^ 64 = omega arith in
     record {
-      text = kept_digits (text_of c.args.self.now) (text_of c.push-digits.new.self) (text_of c.push-else-n-lt10.new.self) n more fits (cc c.push-digits.ensures.text) (cc c.push-else-n-lt10.ensures);
+      text = kept_digits (text_of c.args.self.now) (text_of c.push_digits.new.self) (text_of c.push-else-n-lt10.new.self) n more fits (cc c.push_digits.ensures.text) (cc c.push-else-n-lt10.ensures);
       digits = few_digits n fits;
     }
