@@ -13,10 +13,10 @@ returns c =
     let number : ℕ = s.survey.taken + s.survey.waiting in
     let fit = s.fit in
     let n : length cell.octets ≡ 48 = search rules in
-    let wrote = c.write-cell.ensures in
-    let marked = c.write-mark.ensures in
+    let wrote = c.write_cell.ensures in
+    let marked = c.write_mark.ensures in
     let p = put_into s _ cell (omega arith) n
-    (marked.written ∙ all_written s.bytes.now c.write-cell.new.self.bytes.now number Waiting cell (omega arith) n wrote.written)
+    (marked.written ∙ all_written s.bytes.now c.write_cell.new.self.bytes.now number Waiting cell (omega arith) n wrote.written)
     (ap (λ (v : Survey). survey_of v.taken (v.waiting + 1) (v.unused - 1)) (marked.counts ∙ wrote.counts))
     (marked.loan ∙ wrote.loan) in
     record { meaning = p.0; store = p.1 }

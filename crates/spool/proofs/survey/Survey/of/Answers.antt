@@ -50,6 +50,6 @@ loop-found-preserved c =
 pub returns : goal.returns
 returns c =
     let inv = c.loop-found.invariant in
-    let past : (Within (length c.args.bytes.now) c.loop-found.number → ⊥) = c.in-default.ensures in
+    let past : (Within (length c.args.bytes.now) c.loop-found.number → ⊥) = c.in_default.ensures in
     let answer : Whole c.args.bytes.now c.loop-found.survey = record { long = inv.2; all = omega (arith, inv.0, inv.1); ordered = inv.3 } in
     record { answer = answer; only = λ other found. one_answer c.args.bytes.now (Ok c.loop-found.survey) other answer found }
