@@ -17,15 +17,15 @@ returns c =
     let number = c.args.number in
     let mark : Mark = mark_in l.survey number in
     let cell : Cell = cell_at l.bytes.now number in
-    let found = c.in-ok-found.ensures in
-    let same : c.in-ok-found.found.cell ≡ cell = ap (λ (r : Record). r.cell) found.1 in
-    let word : text_of c.push-str-2.new.self ≡ kept (text_of c.push-str.new.self ++ mark_word mark) = c.push-str-2.ensures ∙ ap (λ (w : List ℕ). kept (text_of c.push-str.new.self ++ w)) (c.mark-word.ensures ∙ ap mark_word c.mark-mark.ensures) in
-    let header : text_of c.push-header.new.line ≡ kept (text_of c.push-str-3.new.self ++ header_word mark cell) = c.push-header.ensures ∙ ap (λ (m : Mark). kept (text_of c.push-str-3.new.self ++ header_word m c.in-ok-found.found.cell)) c.mark-mark.ensures ∙ ap (λ (x : Cell). kept (text_of c.push-str-3.new.self ++ header_word mark x)) same in
+    let found = c.in_ok-found.ensures in
+    let same : c.in_ok-found.found.cell ≡ cell = ap (λ (r : Record). r.cell) found.1 in
+    let word : text_of c.push_str-2.new.self ≡ kept (text_of c.push_str.new.self ++ mark_word mark) = c.push_str-2.ensures ∙ ap (λ (w : List ℕ). kept (text_of c.push_str.new.self ++ w)) (c.mark_word.ensures ∙ ap mark_word c.mark-mark.ensures) in
+    let header : text_of c.push_header.new.line ≡ kept (text_of c.push_str-3.new.self ++ header_word mark cell) = c.push_header.ensures ∙ ap (λ (m : Mark). kept (text_of c.push_str-3.new.self ++ header_word m c.in_ok-found.found.cell)) c.mark-mark.ensures ∙ ap (λ (x : Cell). kept (text_of c.push_str-3.new.self ++ header_word mark x)) same in
     let pieces = decimal number ∷ codes " " ∷ mark_word mark ∷ codes " " ∷ header_word mark cell ∷ codes "\n" ∷ [] in (
       found.0,
-      joined_line (text_of c.new-line.result) pieces (text_of c.push-str-4.new.self) c.new-line.ensures (line_short number mark cell c.push-decimal.ensures.digits)
-          (more c.push-decimal.ensures.text
-          (more c.push-str.ensures (more word
-          (more c.push-str-3.ensures (more header
-          (more c.push-str-4.ensures (done (text_kept c.push-str-4.new.self)))))))),
+      joined_line (text_of c.new-line.result) pieces (text_of c.push_str-4.new.self) c.new-line.ensures (line_short number mark cell c.push_decimal.ensures.digits)
+          (more c.push_decimal.ensures.text
+          (more c.push_str.ensures (more word
+          (more c.push_str-3.ensures (more header
+          (more c.push_str-4.ensures (done (text_kept c.push_str-4.new.self)))))))),
     )

@@ -14,13 +14,13 @@ returns c =
     let s = l.survey in
     let records : ℕ = length l.bytes.now / 50 in
     let pieces : List (List ℕ) = codes "records " ∷ decimal records ∷ codes " taken " ∷ decimal s.taken ∷ codes " waiting " ∷ decimal s.waiting ∷ codes " unused " ∷ decimal s.unused ∷ codes "\n" ∷ [] in
-    let text : text_of c.push-str-5.new.self ≡ kept (summary_line records s) =
-    all_pushed (text_of c.new-line.result) pieces (text_of c.push-str-5.new.self)
-    (more c.push-str.ensures (more c.push-decimal.ensures.text
-    (more c.push-str-2.ensures (more c.push-decimal-2.ensures.text
-    (more c.push-str-3.ensures (more c.push-decimal-3.ensures.text
-    (more c.push-str-4.ensures (more c.push-decimal-4.ensures.text
-    (more c.push-str-5.ensures (done (text_kept c.push-str-5.new.self)))))))))))
+    let text : text_of c.push_str-5.new.self ≡ kept (summary_line records s) =
+    all_pushed (text_of c.new-line.result) pieces (text_of c.push_str-5.new.self)
+    (more c.push_str.ensures (more c.push_decimal.ensures.text
+    (more c.push_str-2.ensures (more c.push_decimal-2.ensures.text
+    (more c.push_str-3.ensures (more c.push_decimal-3.ensures.text
+    (more c.push_str-4.ensures (more c.push_decimal-4.ensures.text
+    (more c.push_str-5.ensures (done (text_kept c.push_str-5.new.self)))))))))))
     ∙ ap (λ (t : List ℕ). kept (t ++ concat pieces)) c.new-line.ensures in
     record {
       text = text;
