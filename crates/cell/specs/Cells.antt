@@ -1,5 +1,5 @@
 -- A cell is 48 octets: the header octet, then a payload of 47.
-use Rattle.std.specs.Prelude.{ℕ, List, take, drop, set, bit_xor, slice_index, slice_set}
+use Rattle.std.specs.Prelude.{ℕ, List, take, drop, bit_xor, slice_index, slice_set}
 use Rattle.cell.specs.declared.octets.Cell.{Cell}
 
 abbrev pub header_of : Cell → ℕ

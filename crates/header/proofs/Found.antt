@@ -1,5 +1,5 @@
 -- What a reading says of its octet: computed over the 256 octets in both modes. Assumes nothing.
-use Rattle.std.proofs.Common.{◌≡◌, ℕ, ◌^◌, ◌<◌, Bool, true, false, cond, ◌&&◌, ◌||◌, eqb, ltb, ◌⊎◌, sym, refl, ◌∙◌, inl, inr, ⊎_elim, ltb-true, eqb-true}
+use Rattle.std.proofs.Common.{◌≡◌, ℕ, ◌^◌, ◌<◌, Bool, true, false, cond, ◌&&◌, ◌||◌, eqb, ltb, sym, refl, ◌∙◌, inl, inr, ⊎_elim, ltb-true, eqb-true}
 use lib.Bits.{bit_xor}
 use lib.Count.{ones_in, ones}
 use Rattle.std.proofs.lemmas.Bool.{and_parts, or_cases, cond-true, cond-false}

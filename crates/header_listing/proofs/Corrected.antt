@@ -1,5 +1,5 @@
 -- An octet counts as corrected exactly if it is valid and differs from its header: by the laws of the header code alone. Assumes nothing.
-use Rattle.std.proofs.Common.{◌≡◌, ℕ, ◌<◌, true, not, ◌⊎◌, Decides, ap, ◌∙◌, ⊎_elim}
+use Rattle.std.proofs.Common.{◌≡◌, ℕ, ◌<◌, true, not, Decides, ap, ◌∙◌, ⊎_elim}
 use Rattle.std.proofs.lemmas.Bool.{and_parts, and_from, both_ways}
 use Rattle.header.specs.declared.reader.Mode.{Mode}
 use Rattle.header.specs.declared.reader.Mode.TheVariants.{Correction}
