@@ -14,11 +14,9 @@ ROOT = pathlib.Path(__file__).resolve().parent.parent
 
 
 def copy_repository(to):
-    """The crates, and what is known to be proved of them, but not what a check would go on from."""
+    """The crates, but not what a check would go on from."""
     shutil.copy(ROOT / "crates.txt", to)
-    shutil.copytree(ROOT / "crates", to / "crates")
-    if (ROOT / "target").is_dir():
-        shutil.copytree(ROOT / "target", to / "target", ignore=shutil.ignore_patterns("inc"))
+    shutil.copytree(ROOT / "crates", to / "crates", ignore=shutil.ignore_patterns("out"))
 
 
 def read_edit(path):
@@ -34,7 +32,8 @@ def wrong(copy, edit):
     if text.count(parts["old"]) != 1:
         return f"its old text is {text.count(parts['old'])} times in {parts['file']}"
     source.write_text(text.replace(parts["old"], parts["new"]))
-    run = subprocess.run(["rt", "mir", crate], cwd=copy, capture_output=True, text=True)
+    # A check reads the sources before it proves anything, and stops there if they do not compile.
+    run = subprocess.run(["rt", "check"], cwd=copy / "crates" / crate, capture_output=True, text=True)
     source.write_text(text)
     if run.returncode == 0:
         return "it compiles"
