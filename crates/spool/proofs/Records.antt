@@ -11,7 +11,7 @@ use Rattle.cell.specs.declared.octets.Cell.{Cell}
 use Rattle.spool.specs.declared.record.Mark.{Mark}
 use Rattle.spool.specs.declared.record.Mark.TheVariants.{Taken, Waiting, Unused}
 use Rattle.spool.specs.declared.record.Record.{Record}
-use Rattle.spool.specs.Records.{first_of, second_of, mark_of, record_of, parted, Within, record_at, Marked, mark_at, cell_at, with_record}
+use Rattle.spool.specs.Records.{first_byte, second_byte, mark_of, record_of, parted, Within, record_at, Marked, mark_at, cell_at, with_record}
 
 abbrev pub made : Option Mark → List ℕ → Record
 made mark octets = record { mark = mark; cell = record { octets = octets } }
@@ -115,20 +115,20 @@ all_written bytes between number mark cell w n e =
     let fifty : length new ≡ 50 = simp length-append (omega arith) in
     let kept : drop 2 (record_at between number) ≡ cell.octets =
     ap (λ (bs : List ℕ). drop 2 (record_at bs number)) e ∙ ap (drop 2) (record_there bytes new number w fifty) ∙ drop_at (take 2 (record_at bytes number)) cell.octets 2 two in
-    ap (λ (bs : List ℕ). with_record between number (first_of mark ∷ second_of mark ∷ bs)) kept
+    ap (λ (bs : List ℕ). with_record between number (first_byte mark ∷ second_byte mark ∷ bs)) kept
     ∙ ap (λ (bs : List ℕ). with_record bs number (record_of mark cell)) e
     ∙ written_twice bytes new (record_of mark cell) number w fifty
 
 -- the mark of two bytes, and the two bytes of a mark
-pub mark_read : (mark : Mark) → mark_of (first_of mark) (second_of mark) ≡ Some mark
+pub mark_read : (mark : Mark) → mark_of (first_byte mark) (second_byte mark) ≡ Some mark
 mark_read Taken = refl
 mark_read Waiting = refl
 mark_read Unused = refl
 
-bytes_of : (first second : ℕ) (mark : Mark) → mark_of first second ≡ Some mark → (first ≡ first_of mark) × (second ≡ second_of mark)
-bytes_of first second Taken e = (grind (arith, nat_tests), grind (arith, nat_tests))
-bytes_of first second Waiting e = (grind (arith, nat_tests), grind (arith, nat_tests))
-bytes_of first second Unused e = (grind (arith, nat_tests), grind (arith, nat_tests))
+bytes_of_mark : (first second : ℕ) (mark : Mark) → mark_of first second ≡ Some mark → (first ≡ first_byte mark) × (second ≡ second_byte mark)
+bytes_of_mark first second Taken e = (grind (arith, nat_tests), grind (arith, nat_tests))
+bytes_of_mark first second Waiting e = (grind (arith, nat_tests), grind (arith, nat_tests))
+bytes_of_mark first second Unused e = (grind (arith, nat_tests), grind (arith, nat_tests))
 
 two_of : (xs : List ℕ) → 2 ≤ length xs → take 2 xs ≡ get_or xs 0 0 ∷ get_or xs 1 0 ∷ []
 two_of [] l = absurd (omega arith)
@@ -139,22 +139,22 @@ pub marked_from_read : (bytes : List ℕ) (number : ℕ) (mark : Mark) → Withi
 marked_from_read bytes number mark w e =
     let r : List ℕ = record_at bytes number in
     let l = length_record bytes number w in
-    let b = bytes_of (get_or r 0 0) (get_or r 1 0) mark e in
-    two_of r (omega arith) ∙ ap (λ (x : ℕ). x ∷ get_or r 1 0 ∷ []) b.0 ∙ ap (λ (y : ℕ). first_of mark ∷ y ∷ []) b.1
+    let b = bytes_of_mark (get_or r 0 0) (get_or r 1 0) mark e in
+    two_of r (omega arith) ∙ ap (λ (x : ℕ). x ∷ get_or r 1 0 ∷ []) b.0 ∙ ap (λ (y : ℕ). first_byte mark ∷ y ∷ []) b.1
 
 pub read_from_marked : (bytes : List ℕ) (number : ℕ) (mark : Mark) → Within (length bytes) number → Marked bytes number mark → mark_at bytes number ≡ Some mark
 read_from_marked bytes number mark w e =
     let r : List ℕ = record_at bytes number in
     let l = length_record bytes number w in
     let t = two_of r (omega arith) in
-    let x : get_or r 0 0 ≡ first_of mark = cc in
-    let y : get_or r 1 0 ≡ second_of mark = cc in
-    ap (λ (f : ℕ). mark_of f (get_or r 1 0)) x ∙ ap (mark_of (first_of mark)) y ∙ mark_read mark
+    let x : get_or r 0 0 ≡ first_byte mark = cc in
+    let y : get_or r 1 0 ≡ second_byte mark = cc in
+    ap (λ (f : ℕ). mark_of f (get_or r 1 0)) x ∙ ap (mark_of (first_byte mark)) y ∙ mark_read mark
 
 -- a record has one mark
 pub one_mark : (bytes : List ℕ) (number : ℕ) (mark other : Mark) → Marked bytes number mark → Marked bytes number other → mark ≡ other
 one_mark bytes number mark other m o =
-    let x : first_of mark ≡ first_of other = cc in
-    let y : second_of mark ≡ second_of other = cc in
-    let s : Some mark ≡ Some other = sym (mark_read mark) ∙ ap (λ (f : ℕ). mark_of f (second_of mark)) x ∙ ap (mark_of (first_of other)) y ∙ mark_read other in
+    let x : first_byte mark ≡ first_byte other = cc in
+    let y : second_byte mark ≡ second_byte other = cc in
+    let s : Some mark ≡ Some other = sym (mark_read mark) ∙ ap (λ (f : ℕ). mark_of f (second_byte mark)) x ∙ ap (mark_of (first_byte other)) y ∙ mark_read other in
     cc

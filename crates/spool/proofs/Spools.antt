@@ -25,13 +25,13 @@ cells_same bytes other from (suc count) same =
     ap (λ (r : List ℕ). (parted r).cell ∷ cells_in bytes (from + 1) count) (same from (omega arith) (omega arith))
     ∙ ap (λ (cs : List Cell). cell_at other from ∷ cs) (cells_same bytes other (from + 1) count (λ k l m. same k (omega arith) (omega arith)))
 
-pub first_of : (bytes : List ℕ) (from count : ℕ) → 0 < count → cells_in bytes from count ≡ cell_at bytes from ∷ cells_in bytes (from + 1) (count - 1)
-first_of bytes from zero l = absurd (omega arith)
-first_of bytes from (suc count) l = let e : count ≡ suc count - 1 = omega arith in ap (λ (n : ℕ). cell_at bytes from ∷ cells_in bytes (from + 1) n) e
+pub first_cell_in : (bytes : List ℕ) (from count : ℕ) → 0 < count → cells_in bytes from count ≡ cell_at bytes from ∷ cells_in bytes (from + 1) (count - 1)
+first_cell_in bytes from zero l = absurd (omega arith)
+first_cell_in bytes from (suc count) l = let e : count ≡ suc count - 1 = omega arith in ap (λ (n : ℕ). cell_at bytes from ∷ cells_in bytes (from + 1) n) e
 
 pub looks : (bytes : List ℕ) (from count : ℕ) (cell : Cell) → 0 < count → cell ≡ cell_at bytes from → cells_in bytes from count ≡ cell ∷ drop 1 (cells_in bytes from count)
 looks bytes from count cell l e =
-    let f = first_of bytes from count l in
+    let f = first_cell_in bytes from count l in
     f ∙ ap (λ (c : Cell). c ∷ cells_in bytes (from + 1) (count - 1)) (sym e) ∙ ap (λ (cs : List Cell). cell ∷ cs) (sym (ap (drop 1) f))
 
 -- one record has another mark, all others keep theirs, and the records are still all of the bytes and in order
@@ -105,7 +105,7 @@ taken_from old new w written counts loan =
     ∙ ap (λ (v : Survey). cells_in put v.taken v.waiting) counts
     ∙ behind in
     let room : new.survey.unused ≡ s.unused = ap (λ (v : Survey). v.unused) counts in (
-      record { waiting = (cell, first_of bytes s.taken s.waiting w ∙ ap (λ (cs : List Cell). cell ∷ cs) (sym left)); fates = refl; room = omega arith },
+      record { waiting = (cell, first_cell_in bytes s.taken s.waiting w ∙ ap (λ (cs : List Cell). cell ∷ cs) (sym left)); fates = refl; room = omega arith },
       record {
         written = written;
         counts = counts;

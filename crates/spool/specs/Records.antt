@@ -6,18 +6,18 @@ use Rattle.spool.specs.declared.record.Mark.TheVariants.{Taken, Waiting, Unused}
 use Rattle.spool.specs.declared.record.Record.{Record}
 
 -- the two bytes of each mark
-abbrev pub first_of : Mark → ℕ
-first_of Taken = 0xA1
-first_of Waiting = 0xA1
-first_of Unused = 0x00
+abbrev pub first_byte : Mark → ℕ
+first_byte Taken = 0xA1
+first_byte Waiting = 0xA1
+first_byte Unused = 0x00
 
-abbrev pub second_of : Mark → ℕ
-second_of Taken = 0x02
-second_of Waiting = 0x01
-second_of Unused = 0x00
+abbrev pub second_byte : Mark → ℕ
+second_byte Taken = 0x02
+second_byte Waiting = 0x01
+second_byte Unused = 0x00
 
 abbrev pub mark_bytes : Mark → List ℕ
-mark_bytes mark = first_of mark ∷ second_of mark ∷ []
+mark_bytes mark = first_byte mark ∷ second_byte mark ∷ []
 
 -- the mark that two bytes are, if they are one
 abbrev pub mark_of : ℕ → ℕ → Option Mark
@@ -27,7 +27,7 @@ mark_of first second =
 
 -- the bytes of a record with this mark and this cell
 abbrev pub record_of : Mark → Cell → List ℕ
-record_of mark cell = first_of mark ∷ second_of mark ∷ cell.octets
+record_of mark cell = first_byte mark ∷ second_byte mark ∷ cell.octets
 
 -- a record's bytes, taken apart
 abbrev pub parted : List ℕ → Record

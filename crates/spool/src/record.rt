@@ -1,6 +1,6 @@
 // A record: two bytes of a mark, then the 48 octets of a cell.
 ghost use Rattle.std.specs.Prelude.{◌≡◌, length, MatchOption};
-ghost use Rattle.spool.specs.Records.{first_of, second_of, mark_of, parted, record_at, Within};
+ghost use Rattle.spool.specs.Records.{first_byte, second_byte, mark_of, parted, record_at, Within};
 
 use cell::Cell;
 
@@ -37,8 +37,8 @@ impl Mark {
 
     /// The two bytes of the mark.
     pub(crate) fn bytes(self) -> (u8, u8)
-        ensures first { result.0 ≡ first_of self }
-        ensures second { result.1 ≡ second_of self }
+        ensures first { result.0 ≡ first_byte self }
+        ensures second { result.1 ≡ second_byte self }
     {
         match self {
             Mark::Taken => (0xA1, 0x02),

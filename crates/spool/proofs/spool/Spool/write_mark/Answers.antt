@@ -1,5 +1,5 @@
 use Rattle.std.proofs.Common.{ℕ, ◌∷◌, drop, refl, ap, ◌∙◌, arith}
-use Rattle.spool.specs.Records.{first_of, record_at, with_record}
+use Rattle.spool.specs.Records.{first_byte, record_at, with_record}
 use Rattle.spool.proofs.Records.{mark_written}
 use Rattle.spool.proofs.spool.Spool.write_mark.Goals as goal
 
@@ -12,7 +12,7 @@ returns c =
     record {
       written = mark_written bytes number c.bytes-first.result.0 c.bytes-first.result.1 (omega arith)
           ∙ ap (λ (f : ℕ). with_record bytes number (f ∷ c.bytes-first.result.1 ∷ drop 2 (record_at bytes number))) m.first
-          ∙ ap (λ (s : ℕ). with_record bytes number (first_of c.args.mark ∷ s ∷ drop 2 (record_at bytes number))) m.second;
+          ∙ ap (λ (s : ℕ). with_record bytes number (first_byte c.args.mark ∷ s ∷ drop 2 (record_at bytes number))) m.second;
       counts = refl;
       loan = refl;
     }
