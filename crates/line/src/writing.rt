@@ -3,7 +3,7 @@ ghost use Rattle.std.specs.Prelude.{◌≡◌, ◌<◌, ◌≤◌, [], vec_len, 
 ghost use Rattle.std.specs.Borrow.{follows_if, sem};
 ghost use Rattle.std.specs.Option.{ghost_name_of as name_of};
 ghost use Rattle.std.specs.Vec.{with_item};
-ghost use Rattle.carriage.specs.contracts.fate.Fate.{the_row as fateRow};
+ghost use Rattle.carriage.specs.contracts.fate.Fate.{the_row as fate_row};
 ghost use Rattle.line.specs.contracts.draft.Table.{the_row};
 ghost use Rattle.line.specs.Drafts.{written, Added, Amended};
 ghost use Rattle.line.specs.Plans.{ahead};
@@ -17,7 +17,7 @@ use std::alloc::AllocError;
 impl Table {
     // The fate that is written at a place, lent to be changed.
     fn entry(&mut self, place: usize) -> Option<&mut Fate>
-        ensures* lends { sem 𝓛 (follows_if the_row fateRow self.entry.ghost_name (name_of result) (λ fate. record { fates = with_item self.old.fates place fate }) self.old) }
+        ensures* lends { sem 𝓛 (follows_if the_row fate_row self.entry.ghost_name (name_of result) (λ fate. record { fates = with_item self.old.fates place fate }) self.old) }
         ensures found { MatchOption result (vec_len self.old.fates ≤ place) (λ lent. (place < vec_len self.old.fates) × (lent.now ≡ slice_index_or self.old.fates.items place lent.now)) }
     {
         self.fates.get_mut(place)

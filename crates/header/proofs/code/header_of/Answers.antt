@@ -6,15 +6,15 @@ use Rattle.header.proofs.Sealed.{sealed_formed, sealed_protected}
 use Rattle.header.proofs.code.header_of.Goals as goal
 
 -- the octet of four leading bits and their CRC
-abbrev octetOf : ℕ → ℕ → ℕ
-octetOf bits crc = bits * 16 + crc * 2 + ones (bits * 16 + crc * 2) % 2
+abbrev octet_of : ℕ → ℕ → ℕ
+octet_of bits crc = bits * 16 + crc * 2 + ones (bits * 16 + crc * 2) % 2
 
 pub returns : goal.returns
 unfolding sealed body
 returns c =
     let csi = c.args.csi in
     let count = c.args.count in
-    let value : octetOf (csi * 8 + count) c.crc.result ≡ sealed csi count = cc c.crc.ensures.value in
+    let value : octet_of (csi * 8 + count) c.crc.result ≡ sealed csi count = cc c.crc.ensures.value in
     record {
       value = cc (value);
       formed = subst (Formed csi count) (sym value) (sealed_formed csi count c.requires.csi c.requires.count);
