@@ -5,7 +5,8 @@ usage: python3 tools/respell.py        at the top of the repository, once; files
 
 A word is in snake case. A dash stays where it joins the names of two functions, as in `length-entries`; elsewhere it is a `_`.
 Types, facts and modules keep their camel case. Functions of src/, strings and the names that Rattle makes are left alone.
-It prints each name that it turned, and stops before it writes anything if two names would fall together.
+It prints each name that it turned, and stops before it writes anything if two names would fall together. Names that port.py
+has made one already it cannot tell apart.
 """
 import collections
 import glob
