@@ -1,5 +1,5 @@
 -- What a refusal tells: its number, the part where it arose, and a place.
-use Rattle.std.specs.Prelude.{ℕ, List, codes}
+use Rattle.std.specs.Prelude.{ℕ, List, ◌++◌, codes, decimal}
 use Rattle.cell.specs.declared.fault.Fault.{Fault}
 use Rattle.cell.specs.declared.fault.Part.{Part}
 use Rattle.cell.specs.declared.fault.Part.TheVariants.{HeaderCode, Ring, Spool, Plan, NearEnd, FarEnd, Carriage}
@@ -33,3 +33,7 @@ name_of Carriage = codes "carriage"
 -- this refusal, from this part, at this place
 abbrev pub raised : Refusal → Part → ℕ → Fault
 raised refusal part place = record { refusal = refusal; part = part; place = place }
+
+-- a refusal as text: its number, the name of the part and the place, single spaces between
+abbrev pub fault_text : Fault → List ℕ
+fault_text fault = decimal (number_of fault.refusal) ++ codes " " ++ name_of fault.part ++ codes " " ++ decimal fault.place

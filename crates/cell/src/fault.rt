@@ -1,8 +1,11 @@
 // What a refused call tells: why, where it arose, and at which place.
-ghost use Rattle.std.specs.Prelude.{◌≡◌};
-ghost use Rattle.cell.specs.Faults.{number_of, name_of, raised};
+ghost use Rattle.std.specs.Prelude.{◌≡◌, Some};
+ghost use Rattle.cell.specs.Faults.{number_of, name_of, raised, fault_text};
 
-/// Why a call was refused. `number` answers the number by which each is known.
+use std::error::Error;
+use std::fmt;
+
+/// Why a call was refused. `u8::from` answers the number by which each is known.
 #[derive(Clone, Copy, PartialEq, Eq, Debug)]
 pub enum Refusal {
     /// The block size is 0 or over 4,096.
@@ -29,11 +32,11 @@ pub enum Refusal {
     NoFate,
 }
 
-impl Refusal {
-    pub fn number(self) -> u8
-        ensures { result ≡ number_of self }
-    {
-        match self {
+impl From<Refusal> for u8 {
+    ghost from_gives = { λ refusal number. number ≡ number_of refusal };
+
+    fn from(refusal: Refusal) -> u8 {
+        match refusal {
             Refusal::BlockSize => 1,
             Refusal::ListTooLong => 2,
             Refusal::Full => 3,
@@ -79,6 +82,14 @@ impl Part {
     }
 }
 
+impl fmt::Display for Part {
+    ghost output = { λ part. Some (name_of part) };
+
+    fn fmt<W: fmt::Write>(&self, f: &mut fmt::Formatter<W>) -> fmt::Result {
+        f.write_str(self.name())
+    }
+}
+
 /// One refusal, passed up whole through every part above the one where it arose.
 #[derive(Clone, Copy, PartialEq, Eq, Debug)]
 pub struct Fault {
@@ -103,6 +114,16 @@ impl Fault {
     pub fn number(&self) -> u8
         ensures { result ≡ number_of self.now.refusal }
     {
-        self.refusal.number()
+        u8::from(self.refusal)
     }
 }
+
+impl fmt::Display for Fault {
+    ghost output = { λ fault. Some (fault_text fault) };
+
+    fn fmt<W: fmt::Write>(&self, f: &mut fmt::Formatter<W>) -> fmt::Result {
+        write!(f, "{} {} {}", self.number(), self.part, self.place)
+    }
+}
+
+impl Error for Fault {}
