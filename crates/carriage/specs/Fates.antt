@@ -1,6 +1,10 @@
 -- Fates: what becomes of a cell on its way.
-use Rattle.std.specs.Prelude.{ℕ, cond, List, [], ◌∷◌, ◌++◌, drop, Some, None, Option, ◌==◌, nat_lt}
+use Rattle.std.specs.Prelude.{◌≡◌, ℕ, cond, List, [], ◌∷◌, ◌++◌, drop, Some, None, Ok, Err, Option, Result, ◌==◌, nat_lt}
 use Rattle.cell.specs.Cells.{turned}
+use Rattle.cell.specs.Faults.{raised}
+use Rattle.cell.specs.declared.fault.Fault.{Fault}
+use Rattle.cell.specs.declared.fault.Part.TheVariants.{Plan}
+use Rattle.cell.specs.declared.fault.Refusal.TheVariants.{FateNumber}
 use Rattle.cell.specs.declared.octets.Cell.{Cell}
 use Rattle.carriage.specs.declared.fate.Fate.{Fate}
 use Rattle.carriage.specs.declared.fate.Fate.TheVariants.{Turn, Lost}
@@ -13,6 +17,11 @@ number_of Lost = 256
 -- the fate of a number, which is at most 256
 abbrev pub fate_of : ℕ → Option Fate
 fate_of number = cond (nat_lt number 256) (Some (Turn number)) (cond (number == 256) (Some Lost) None)
+
+-- The fate of a number. Refused exactly if none has it.
+abbrev pub FateNumbered : ℕ → Result Fate Fault → Type 0
+FateNumbered number (Ok fate) = fate_of number ≡ Some fate
+FateNumbered number (Err fault) = (fate_of number ≡ None) × (fault ≡ raised FateNumber Plan 0)
 
 -- the fate that the next cell meets: with none left no bit is turned
 abbrev pub next_fate : List Fate → Fate

@@ -1,6 +1,8 @@
 // What becomes of a cell on its way.
 ghost use Rattle.std.specs.Prelude.{◌≡◌};
-ghost use Rattle.carriage.specs.Fates.{number_of, fate_of};
+ghost use Rattle.carriage.specs.Fates.{number_of, FateNumbered};
+
+use cell::{Fault, Part, Refusal};
 
 /// The fate of one cell: the header bits that are turned, or lost.
 #[derive(Clone, Copy, PartialEq, Eq, Debug)]
@@ -11,25 +13,29 @@ pub enum Fate {
     Lost,
 }
 
-impl Fate {
-    /// The number of a fate: the mask, or 256 for lost.
-    pub fn number(self) -> u16
-        ensures { result ≡ number_of self }
-    {
-        match self {
+impl From<Fate> for u16 {
+    // The number of a fate: the mask, or 256 for lost.
+    ghost from_gives = { λ fate number. number ≡ number_of fate };
+
+    fn from(fate: Fate) -> u16 {
+        match fate {
             Fate::Turn(mask) => u16::from(mask),
             Fate::Lost => 256,
         }
     }
+}
 
-    /// The fate that has this number, if one has.
-    pub fn numbered(number: u16) -> Option<Fate>
-        ensures { result ≡ fate_of number }
-    {
+impl TryFrom<u16> for Fate {
+    type Error = Fault;
+
+    // The fate that has this number. Refused, as by a plan, if none has.
+    ghost try_from_gives = { FateNumbered };
+
+    fn try_from(number: u16) -> Result<Fate, Fault> {
         match number {
-            0..=255 => Some(Fate::Turn(number as u8)),
-            256 => Some(Fate::Lost),
-            _ => None,
+            0..=255 => Ok(Fate::Turn(number as u8)),
+            256 => Ok(Fate::Lost),
+            _ => Err(Fault::new(Refusal::FateNumber, Part::Plan)),
         }
     }
 }

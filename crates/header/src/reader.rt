@@ -1,11 +1,12 @@
 // Reading header octets, one after the other, in correction or in detection mode.
-ghost use Rattle.std.specs.Prelude.{◌≡◌};
+ghost use Rattle.std.specs.Prelude.{◌≡◌, Some};
 ghost use Rattle.header.specs.declared.reader.Mode.TheVariants.{Correction};
 ghost use Rattle.header.specs.Reading.{mode_name, reading, mode_after};
 ghost use Rattle.header.specs.Laws.{Explained};
 
 use crate::code::syndrome;
 use crate::finding::Finding;
+use std::fmt;
 
 /// What the reader may do with a header that does not hold.
 #[derive(Clone, Copy, PartialEq, Eq, Debug)]
@@ -25,6 +26,14 @@ impl Mode {
             Mode::Correction => "correction",
             Mode::Detection => "detection",
         }
+    }
+}
+
+impl fmt::Display for Mode {
+    ghost output = { λ mode. Some (mode_name mode) };
+
+    fn fmt<W: fmt::Write>(&self, f: &mut fmt::Formatter<W>) -> fmt::Result {
+        f.write_str(self.name())
     }
 }
 
