@@ -1,4 +1,3 @@
 pub mod Short
-pub mod Entered
 pub mod Numbers
 pub mod Corrected

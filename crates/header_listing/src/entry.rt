@@ -4,7 +4,7 @@ ghost use Rattle.text.specs.Lines.{text_of};
 ghost use Rattle.header_listing.specs.Text.{validity_word, line_of};
 
 use header::{Mode, Reading};
-use text::Line;
+use text::{Line, Piece};
 
 /// A header octet, what was read from it, and the mode that followed.
 #[derive(Clone, Copy)]
@@ -19,18 +19,18 @@ impl Entry {
     pub(crate) fn line(&self) -> Line
         ensures { text_of result ≡ line_of self.now }
     {
-        let mut line = Line::new();
-        line.push_hex(self.octet);
-        line.push_str(" ");
-        line.push_decimal(u64::from(self.reading.csi));
-        line.push_str(" ");
-        line.push_decimal(u64::from(self.reading.count));
-        line.push_str(" ");
-        line.push_str(validity_word(self.reading.valid));
-        line.push_str(" ");
-        line.push_str(self.mode.name());
-        line.push_str("\n");
-        line
+        Line::of(&[
+            Piece::Hex(self.octet),
+            Piece::Text(" "),
+            Piece::Decimal(u64::from(self.reading.csi)),
+            Piece::Text(" "),
+            Piece::Decimal(u64::from(self.reading.count)),
+            Piece::Text(" "),
+            Piece::Text(validity_word(self.reading.valid)),
+            Piece::Text(" "),
+            Piece::Text(self.mode.name()),
+            Piece::Text("\n"),
+        ])
     }
 }
 

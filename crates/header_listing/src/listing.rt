@@ -6,7 +6,7 @@ ghost use Rattle.header_listing.specs.Entries.{entry_of, opened, advanced, noted
 
 use crate::entry::Entry;
 use header::{Mode, Reader};
-use text::Line;
+use text::{Line, Piece};
 
 /// How many octets were read, how many of them with a bit turned back, and how many were invalid.
 /// A number that has come to the largest u64 stays there.
@@ -52,14 +52,11 @@ impl Listing {
         ensures value { result ≡ entry_of self.old.reader.mode octet }
         ensures after { self.new ≡ advanced self.old octet }
     {
-        let mut reader = self.reader;
-        let reading = reader.read(octet);
         let entry = Entry {
             octet,
-            reading,
-            mode: reader.mode(),
+            reading: self.reader.read(octet),
+            mode: self.reader.mode(),
         };
-        self.reader = reader;
         self.tally.note(entry);
         entry
     }
@@ -89,14 +86,19 @@ impl Tally {
     fn line(&self) -> Line
         ensures { text_of result ≡ summary_of self.now }
     {
-        let mut line = Line::new();
-        line.push_str("read ");
-        line.push_decimal(self.read);
-        line.push_str(" corrected ");
-        line.push_decimal(self.corrected);
-        line.push_str(" invalid ");
-        line.push_decimal(self.invalid);
-        line.push_str("\n");
-        line
+        let Tally {
+            read,
+            corrected,
+            invalid,
+        } = *self;
+        Line::of(&[
+            Piece::Text("read "),
+            Piece::Decimal(read),
+            Piece::Text(" corrected "),
+            Piece::Decimal(corrected),
+            Piece::Text(" invalid "),
+            Piece::Decimal(invalid),
+            Piece::Text("\n"),
+        ])
     }
 }

@@ -2,14 +2,14 @@
 ghost use Rattle.std.specs.Prelude.{◌≡◌, ◌/◌, ◌++◌, length, MatchOption};
 ghost use Rattle.spool.specs.Records.{Within};
 ghost use Rattle.spool.specs.Surveys.{mark_in, records_of};
-ghost use Rattle.text.specs.Lines.{text_of, kept};
+ghost use Rattle.text.specs.Lines.{text_of, kept, text_of_piece};
 ghost use Rattle.spool_listing.specs.Listings.{listed_bytes, IsListed, Listed, line_at};
 ghost use Rattle.spool_listing.specs.Text.{mark_word, header_word, summary_line, refusal_line};
 
 use crate::listing::Listing;
 use cell::{Cell, Fault};
 use spool::{Mark, Record, Survey};
-use text::Line;
+use text::{Line, Piece};
 
 impl<'a> Listing<'a> {
     /// The listing of a spool with these bytes. Refused as the opening of the spool would be.
@@ -25,15 +25,15 @@ impl<'a> Listing<'a> {
         ensures { MatchOption result (Within (length (listed_bytes self.now)) number → ⊥) (λ line. Within (length (listed_bytes self.now)) number × (text_of line ≡ line_at self.now number)) }
     {
         let found = Record::at(self.bytes, number)?;
-        let mut line = Line::new();
-        line.push_decimal(number as u64);
-        line.push_str(" ");
         let mark = self.mark(number);
-        line.push_str(mark_word(mark));
-        line.push_str(" ");
-        push_header(&mut line, mark, found.cell);
-        line.push_str("\n");
-        Some(line)
+        Some(Line::of(&[
+            Piece::Decimal(number as u64),
+            Piece::Text(" "),
+            Piece::Text(mark_word(mark)),
+            Piece::Text(" "),
+            header_piece(mark, found.cell),
+            Piece::Text("\n"),
+        ]))
     }
 
     /// The last line: how many records there are, and how many of each kind.
@@ -46,17 +46,17 @@ impl<'a> Listing<'a> {
             waiting,
             unused,
         } = self.survey;
-        let mut line = Line::new();
-        line.push_str("records ");
-        line.push_decimal((self.bytes.len() / Record::LEN) as u64);
-        line.push_str(" taken ");
-        line.push_decimal(taken as u64);
-        line.push_str(" waiting ");
-        line.push_decimal(waiting as u64);
-        line.push_str(" unused ");
-        line.push_decimal(unused as u64);
-        line.push_str("\n");
-        line
+        Line::of(&[
+            Piece::Text("records "),
+            Piece::Decimal((self.bytes.len() / Record::LEN) as u64),
+            Piece::Text(" taken "),
+            Piece::Decimal(taken as u64),
+            Piece::Text(" waiting "),
+            Piece::Decimal(waiting as u64),
+            Piece::Text(" unused "),
+            Piece::Decimal(unused as u64),
+            Piece::Text("\n"),
+        ])
     }
 
     // The mark of the record of this number.
@@ -84,12 +84,12 @@ fn mark_word(mark: Mark) -> &'static str
 }
 
 // The header octet of a record's cell, if it has one.
-fn push_header(line: &mut Line, mark: Mark, cell: Cell)
-    ensures { text_of line.new ≡ kept (text_of line.old ++ header_word mark cell) }
+fn header_piece(mark: Mark, cell: Cell) -> Piece<'static>
+    ensures { text_of_piece result ≡ header_word mark cell }
 {
     match mark {
-        Mark::Taken | Mark::Waiting => line.push_hex(cell.header()),
-        Mark::Unused => line.push_str("--"),
+        Mark::Taken | Mark::Waiting => Piece::Hex(cell.header()),
+        Mark::Unused => Piece::Text("--"),
     }
 }
 
@@ -97,11 +97,11 @@ fn push_header(line: &mut Line, mark: Mark, cell: Cell)
 pub fn refusal_line(fault: &Fault) -> Line
     ensures { text_of result ≡ refusal_line fault.now }
 {
-    let mut line = Line::new();
-    line.push_str("refused ");
-    line.push_decimal(u64::from(fault.number()));
-    line.push_str(" ");
-    line.push_decimal(fault.place as u64);
-    line.push_str("\n");
-    line
+    Line::of(&[
+        Piece::Text("refused "),
+        Piece::Decimal(u64::from(fault.number())),
+        Piece::Text(" "),
+        Piece::Decimal(fault.place as u64),
+        Piece::Text("\n"),
+    ])
 }

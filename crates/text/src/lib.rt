@@ -2,6 +2,8 @@
 #![tactic(auto)]
 
 mod line;
+mod piece;
 mod pushes;
 
 pub use line::Line;
+pub use piece::Piece;

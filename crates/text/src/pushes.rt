@@ -1,8 +1,10 @@
 // Making a line, piece by piece.
-ghost use Rattle.std.specs.Prelude.{◌≡◌, ◌<◌, ◌≤◌, [], ◌∷◌, ◌++◌, length, decimal};
-ghost use Rattle.text.specs.Lines.{text_of, kept, hex_digit, hex_of};
+ghost use Rattle.std.specs.Prelude.{◌≡◌, ◌<◌, ◌≤◌, [], length, decimal, All};
+ghost use Rattle.text.specs.Lines.{text_of, kept, Appends, hex_digit, hex_of, text_of_piece, text_of_pieces, FewDigits};
 
 use crate::line::Line;
+use crate::piece::Piece;
+use itoa::Buffer;
 
 impl Line {
     /// An empty line.
@@ -15,6 +17,18 @@ impl Line {
         }
     }
 
+    /// The line that these pieces make.
+    pub fn of(pieces: &[Piece<'_>]) -> Line
+        ensures text { text_of result ≡ kept (text_of_pieces pieces.now) }
+        ensures digits { All FewDigits pieces.now }
+    {
+        let mut line = Line::new();
+        for piece in pieces {
+            line.push(piece);
+        }
+        line
+    }
+
     /// The octets of the line.
     pub fn text(&self) -> &[u8]
         ensures { result.now ≡ text_of self.now }
@@ -22,58 +36,49 @@ impl Line {
         &self.octets[0..self.len]
     }
 
+    /// A piece more.
+    pub fn push(&mut self, piece: &Piece<'_>)
+        ensures text { Appends self.old (text_of_piece piece.now) self.new }
+        ensures digits { FewDigits piece.now }
+    {
+        match *piece {
+            Piece::Text(text) => self.push_str(text),
+            Piece::Hex(octet) => self.push_hex(octet),
+            Piece::Decimal(n) => self.push_decimal(n),
+        }
+    }
+
     /// A text more.
     pub fn push_str(&mut self, text: &str)
-        ensures { text_of self.new ≡ kept (text_of self.old ++ text.now) }
+        ensures { Appends self.old text.now self.new }
     {
         self.push_all(text.as_bytes());
     }
 
     /// An octet more as two hexadecimal digits, capitals.
     pub fn push_hex(&mut self, octet: u8)
-        ensures { text_of self.new ≡ kept (text_of self.old ++ hex_of octet) }
+        ensures { Appends self.old (hex_of octet) self.new }
     {
         self.push_all(&[hex_digit(octet / 16), hex_digit(octet % 16)]);
     }
 
     /// A number more, decimal.
     pub fn push_decimal(&mut self, n: u64)
-        ensures text { text_of self.new ≡ kept (text_of self.old ++ decimal n) }
+        ensures text { Appends self.old (decimal n) self.new }
         ensures digits { length (decimal n) ≤ 20 }
     {
-        self.push_digits(n);
+        self.push_str(Buffer::new().format(n));
     }
 
-    // The digits of a number, the last one after all the others.
-    fn push_digits(&mut self, n: u64)
-        ensures text { text_of self.new ≡ kept (text_of self.old ++ decimal n) }
-        ensures digits { length (decimal n) ≤ 20 }
-    {
-        if n < 10 {
-            self.push(b'0' + n as u8);
-        } else {
-            self.push_digits(n / 10);
-            self.push(b'0' + (n % 10) as u8);
-        }
-    }
-
-    // One octet more.
-    fn push(&mut self, octet: u8)
-        ensures { text_of self.new ≡ kept (text_of self.old ++ (octet ∷ [])) }
-    {
-        if self.len < 96 {
-            self.octets[self.len] = octet;
-            self.len += 1;
-        }
-    }
-
-    // Some octets more.
+    // Some octets more, as far as there is room.
     fn push_all(&mut self, octets: &[u8])
-        ensures { text_of self.new ≡ kept (text_of self.old ++ octets.now) }
+        ensures { Appends self.old octets.now self.new }
     {
-        for octet in octets {
-            self.push(*octet);
-        }
+        let start = self.len;
+        let fitting = octets.len().min(96 - start);
+        let end = start + fitting;
+        self.octets[start..end].copy_from_slice(&octets[..fitting]);
+        self.len = end;
     }
 }
 

@@ -1,7 +1,6 @@
-use Rattle.std.proofs.Common.{◌≡◌, ℕ, ◌/◌, List, [], ◌∷◌, ◌++◌, length, codes, decimal, ap, ◌∙◌, arith}
-use Rattle.std.specs.List.{concat}
+use Rattle.std.proofs.Common.{◌≡◌, ℕ, ◌/◌, length, ap, ◌∙◌, arith}
 use Rattle.spool.specs.Surveys.{records_of}
-use Rattle.text.proofs.Kept.{done, more, all_pushed, kept_short, text_kept}
+use Rattle.text.proofs.Kept.{kept_short}
 use Rattle.text.specs.Lines.{text_of, kept}
 use Rattle.spool_listing.specs.Text.{summary_line}
 use Rattle.spool_listing.proofs.Short.{summary_short}
@@ -13,15 +12,7 @@ returns c =
     let l = c.args.self.now in
     let s = l.survey in
     let records : ℕ = length l.bytes.now / 50 in
-    let pieces : List (List ℕ) = codes "records " ∷ decimal records ∷ codes " taken " ∷ decimal s.taken ∷ codes " waiting " ∷ decimal s.waiting ∷ codes " unused " ∷ decimal s.unused ∷ codes "\n" ∷ [] in
-    let text : text_of c.push_str-5.new.self ≡ kept (summary_line records s) =
-    all_pushed (text_of c.new-line.result) pieces (text_of c.push_str-5.new.self)
-    (more c.push_str.ensures (more c.push_decimal.ensures.text
-    (more c.push_str-2.ensures (more c.push_decimal-2.ensures.text
-    (more c.push_str-3.ensures (more c.push_decimal-3.ensures.text
-    (more c.push_str-4.ensures (more c.push_decimal-4.ensures.text
-    (more c.push_str-5.ensures (done (text_kept c.push_str-5.new.self)))))))))))
-    ∙ ap (λ (t : List ℕ). kept (t ++ concat pieces)) c.new-line.ensures in
+    let text : text_of c.of.result ≡ kept (summary_line records s) = c.of.ensures.text in
     record {
       text = text;
       whole = λ listed.
