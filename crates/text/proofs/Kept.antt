@@ -1,29 +1,27 @@
 -- What a line keeps, octet by octet and piece by piece. Assumes nothing.
-use Rattle.std.proofs.Common.{◌≡◌, ℕ, ◌+◌, ◌-◌, ◌<◌, ◌≤◌, List, [], ◌∷◌, ◌++◌, length, get_or, take, min, sym, ap, ◌∙◌, ⊎_elim, append_assoc, append-nil, arith, length-take, take_all}
-use lib.Seq.{take-append-le, take-append-add}
+use Rattle.std.proofs.Common.{set, length-append, ◌≡◌, ℕ, ◌+◌, ◌<◌, ◌≤◌, List, [], ◌∷◌, ◌++◌, length, get_or, take, sym, ap, ◌∙◌, ⊎_elim, append_assoc, append-nil, arith, length-take, take_all}
+use lib.Seq.{take-append-le}
 use Rattle.std.specs.List.{concat}
-use Rattle.std.proofs.lemmas.List.{flat_map_more, take_more, take_min, length-take-le}
-use Rattle.std.proofs.lemmas.Slice.{take-put_mid}
-use borrow.Rule.Slice.PartMut.{put_mid}
+use Rattle.std.proofs.lemmas.List.{flat_map_more, take_more, take_more_set}
 use Rattle.std.proofs.lemmas.Bool.{cases_lt}
 use Rattle.text.specs.declared.line.Line.{Line}
 use Rattle.text.specs.declared.piece.Piece.{Piece}
 use Rattle.text.specs.Lines.{text_of, kept, text_of_piece, text_of_pieces}
 
--- some octets, as many as there is room for, written behind the first n
-pub kept_added : (xs octets new : List ℕ) (n fitting count : ℕ) → length xs ≡ 96 → n ≤ 96 → fitting ≡ min (length octets) (96 - n) → new ≡ take fitting octets → take (n + fitting) (put_mid n count xs new) ≡ kept (take n xs ++ octets)
-kept_added xs octets new n fitting count whole small fits e =
-    let inside : n ≤ length xs = omega arith in
-    let before : length (take n xs) ≡ n = length-take-le n xs inside in
-    let wide : length new ≡ fitting = ap length e ∙ length-take-le fitting octets (omega arith) in
-    let all : n + (96 - n) ≡ 96 = omega arith in
-    take-put_mid n count xs new (n + fitting) (ap (λ k. n + k) (sym wide)) inside
-    ∙ ap (λ ys. take n xs ++ ys) (e ∙ ap (λ k. take k octets) (fits ∙ min_comm) ∙ take_min (96 - n) octets)
-    ∙ sym (take-append-add (take n xs) octets (96 - n))
-    ∙ ap (λ k. take k (take n xs ++ octets)) (ap (λ k. k + (96 - n)) before ∙ all)
-  where
-    min_comm : min (length octets) (96 - n) ≡ min (96 - n) (length octets)
-    min_comm = omega arith
+-- one octet
+
+pub kept_one : (xs : List ℕ) (n octet : ℕ) → n < 96 → length xs ≡ 96 → take (n + 1) (set xs n octet) ≡ kept (take n xs ++ (octet ∷ []))
+kept_one xs n octet h whole =
+    let inside : n < length xs = omega arith in
+    let short : length (take n xs ++ (octet ∷ [])) ≤ 96 = simp (length-append, length-take) (omega arith) in
+    take_more_set xs n octet inside ∙ sym (take_all 96 (take n xs ++ (octet ∷ [])) short)
+
+pub kept_full : (xs : List ℕ) (n octet : ℕ) → n ≡ 96 → length xs ≡ 96 → take n xs ≡ kept (take n xs ++ (octet ∷ []))
+kept_full xs n octet h whole =
+    let all : length (take n xs) ≡ 96 = simp length-take (omega arith) in
+    let long : 96 ≤ length (take n xs) = omega arith in
+    let short : length (take n xs) ≤ 96 = omega arith in
+    sym (take-append-le 96 (take n xs) (octet ∷ []) long ∙ take_all 96 (take n xs) short)
 
 -- what was kept already
 
@@ -40,6 +38,20 @@ kept-kept xs ys =
     let within : length (kept xs) ≤ 96 = omega arith in
     take-append-le 96 (kept xs) ys over ∙ take_all 96 (kept xs) within ∙ sym (take-append-le 96 xs ys long))
     (cases_lt (length xs) 96)
+
+-- a piece after a piece
+pub kept_more : (before now after xs ys : List ℕ) → now ≡ kept (before ++ xs) → after ≡ kept (now ++ ys) → after ≡ kept (before ++ (xs ++ ys))
+kept_more before now after xs ys e f = f ∙ ap (λ zs. kept (zs ++ ys)) e ∙ kept-kept (before ++ xs) ys ∙ ap kept (append_assoc before xs ys)
+
+-- an octet after the first i
+pub kept_next : (before now after xs : List ℕ) (i : ℕ) → i < length xs → now ≡ kept (before ++ take i xs) → after ≡ kept (now ++ (get_or xs i 0 ∷ [])) → after ≡ kept (before ++ take (i + 1) xs)
+kept_next before now after xs i h e f = kept_more before now after (take i xs) (get_or xs i 0 ∷ []) e f ∙ ap (λ zs. kept (before ++ zs)) (sym (take_more xs i 0 h))
+
+-- nothing more
+pub kept_none : (xs : List ℕ) (n : ℕ) → n ≤ 96 → take n xs ≡ kept (take n xs ++ [])
+kept_none xs n h =
+    let short : length (take n xs) ≤ 96 = simp length-take (omega arith) in
+    sym (ap kept (append-nil (take n xs)) ∙ kept_short (take n xs) short)
 
 -- a piece after the first i of a line's pieces
 pub kept_piece : (now after : List ℕ) (pieces : List Piece) (i : ℕ) (d : Piece) → i < length pieces → now ≡ kept (text_of_pieces (take i pieces)) → after ≡ kept (now ++ text_of_piece (get_or pieces i d)) → after ≡ kept (text_of_pieces (take (i + 1) pieces))

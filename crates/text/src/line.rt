@@ -2,6 +2,7 @@
 ghost use Rattle.std.specs.Prelude.{◌≤◌};
 
 /// A line of at most 96 octets. What does not fit is left off.
+// Kept, an array with a length beside it: a line is in fixed memory, and can be copied, which an `ArrayVec` cannot.
 #[derive(Clone, Copy)]
 pub struct Line {
     pub(crate) octets: [u8; 96],

@@ -1,5 +1,5 @@
 // Making a line, piece by piece.
-ghost use Rattle.std.specs.Prelude.{◌≡◌, ◌<◌, ◌≤◌, [], length, decimal, All};
+ghost use Rattle.std.specs.Prelude.{◌≡◌, ◌<◌, ◌≤◌, [], ◌∷◌, length, decimal, All};
 ghost use Rattle.text.specs.Lines.{text_of, kept, Appends, hex_digit, hex_of, text_of_piece, text_of_pieces, FewDigits};
 
 use crate::line::Line;
@@ -70,15 +70,23 @@ impl Line {
         self.push_str(Buffer::new().format(n));
     }
 
-    // Some octets more, as far as there is room.
+    // One octet more.
+    fn push_octet(&mut self, octet: u8)
+        ensures { Appends self.old (octet ∷ []) self.new }
+    {
+        if self.len < 96 {
+            self.octets[self.len] = octet;
+            self.len += 1;
+        }
+    }
+
+    // Some octets more.
     fn push_all(&mut self, octets: &[u8])
         ensures { Appends self.old octets.now self.new }
     {
-        let start = self.len;
-        let fitting = octets.len().min(96 - start);
-        let end = start + fitting;
-        self.octets[start..end].copy_from_slice(&octets[..fitting]);
-        self.len = end;
+        for octet in octets {
+            self.push_octet(*octet);
+        }
     }
 }
 

@@ -1,9 +1,17 @@
-use Rattle.std.proofs.Common.{length, rules, ◌≡◌}
-use Rattle.text.proofs.Kept.{kept_added}
+use Rattle.std.proofs.Common.{◌++◌, ap, ◌∙◌, take_all}
+use Rattle.text.specs.Lines.{text_of, kept}
+use Rattle.text.proofs.Kept.{kept_none, kept_next}
 use Rattle.text.proofs.line.Line.push_all.Goals as goal
+
+pub loop-octet-init : goal.loop-octet-init
+loop-octet-init c = let l = c.args.self.now in kept_none l.octets l.len l.fits
+
+pub loop-octet-preserved : goal.loop-octet-preserved
+loop-octet-preserved c =
+    let turn = c.loop-octet in
+    kept_next (text_of c.args.self.now) (text_of turn.self) (text_of c.push_octet.new.self) c.args.octets.now turn.octet-index c.loop-octet-test.true turn.invariant c.push_octet.ensures
 
 pub returns : goal.returns
 returns c =
-    let l = c.args.self.now in
-    let whole : length l.octets ≡ 96 = search rules in
-    kept_added l.octets c.args.octets.now _ l.len c.min-fitting.result _ whole l.fits c.min-fitting.ensures c.copy_from_slice.ensures.after
+    let whole = take_all c.loop-octet.octet-index c.args.octets.now c.loop-octet-test.false in
+    c.loop-octet.invariant ∙ ap (λ xs. kept (text_of c.args.self.now ++ xs)) whole
