@@ -1,69 +1,68 @@
--- What a reading says of its octet: computed over the 256 octets in both modes. Assumes nothing.
-use Rattle.std.proofs.Common.{◌≡◌, ℕ, ◌^◌, ◌<◌, Bool, true, false, cond, ◌&&◌, ◌||◌, eqb, ltb, sym, refl, ◌∙◌, inl, inr, ⊎_elim, ltb-true, eqb-true}
+-- What a reading says of its octet: computed over the 256 octets. Assumes nothing.
+use Rattle.std.proofs.Common.{◌≡◌, ℕ, ◌/◌, ◌%◌, ◌^◌, ◌<◌, Bool, true, false, cond, not, ◌&&◌, ltb, ◌==◌, [], ◌∷◌, sym, refl, inl, inr, arith, ltb-true, eqb-true}
 use lib.Bits.{bit_xor}
 use lib.Count.{ones_in, ones}
-use Rattle.std.proofs.lemmas.Bool.{and_parts, or_cases, cond-true, cond-false}
+use Rattle.std.proofs.lemmas.Bool.{and_parts}
 use Rattle.header.specs.declared.reader.Mode.{Mode}
 use Rattle.header.specs.declared.reader.Mode.TheVariants.{Correction, Detection}
 use Rattle.header.specs.declared.reader.Reading.{Reading}
 use Rattle.header.specs.Polynomials.{reduced, remainder}
-use Rattle.header.specs.Code.{crc_of, body, sealed, syndrome_of, first_with, named_by}
-use Rattle.header.specs.Reading.{fields_of, finding, reading, mode_after}
-use Rattle.header.specs.Laws.{Traced, Explained}
-use Rattle.header.proofs.Computed.{all_below, any_below, each_below, some_below}
-use Rattle.header.proofs.Same.{mode_eq, same_mode, reading_eq, same_reading}
+use Rattle.header.specs.Code.{crc_of, body, sealed, syndrome_of, violated, first_with, named_by}
+use Rattle.header.specs.Reading.{fields_of, judged, answered, next_mode, finding, reading, mode_after}
+use Rattle.header.specs.Laws.{Explained}
+use Rattle.header.proofs.Computed.{any_below, each_below, some_below}
 
-as_sealed : ℕ → ℕ → ℕ → Mode → Bool
-as_sealed octet csi count after = eqb octet (sealed csi count) && mode_eq after Correction
+-- the header with the CSI and the count that stand in an octet
+abbrev sealed_again : ℕ → ℕ
+sealed_again octet = sealed (octet / 128) (octet / 16 % 8)
 
-turned_at : ℕ → ℕ → ℕ → ℕ → Bool
-turned_at octet csi count i = eqb octet (bit_xor (sealed csi count) (2 ^ i))
+abbrev turned_back : ℕ → ℕ
+turned_back octet = bit_xor octet (named_by (syndrome_of octet))
 
-one_off : Mode → ℕ → ℕ → ℕ → Mode → Bool
-one_off m octet csi count after = mode_eq m Correction && (mode_eq after Detection && any_below (turned_at octet csi count) 8)
+abbrev one_off : ℕ → ℕ → Bool
+one_off octet i = octet == bit_xor (sealed_again (turned_back octet)) (2 ^ i)
 
-traced : Mode → ℕ → ℕ → ℕ → Mode → Bool
-traced m octet csi count after = ltb csi 2 && (ltb count 8 && (as_sealed octet csi count after || one_off m octet csi count after))
+-- an octet with syndrome 0 and an even number of ones is a header
+intact : (octet : ℕ) → octet < 256 → cond (syndrome_of octet == 0 && not (violated octet)) (sealed_again octet) octet ≡ octet
+unfolding sealed body syndrome_of crc_of remainder reduced ones ones_in
+intact = each_below _ (256 ∷ []) _ _ refl
 
-traced_from : (m : Mode) (octet csi count : ℕ) (after : Mode) → traced m octet csi count after ≡ true → Traced m octet csi count after
-unfolding traced as_sealed one_off turned_at
-traced_from m octet csi count after e =
-    let a = and_parts (ltb csi 2) _ e in
-    let b = and_parts (ltb count 8) _ a.1 in
-    record {
-      csi_small = ltb-true csi 2 a.0;
-      count_small = ltb-true count 8 b.0;
-      from = ⊎_elim
-          (λ t. let s = and_parts (eqb octet (sealed csi count)) _ t in inl (eqb-true octet _ s.0, same_mode after Correction s.1))
-          (λ t. let s = and_parts (mode_eq m Correction) _ t in
-          let u = and_parts (mode_eq after Detection) _ s.1 in
-          let at = some_below (turned_at octet csi count) 8 u.1 in
-          inr (same_mode m Correction s.0, same_mode after Detection u.0, (at.0, at.1, eqb-true octet _ at.2)))
-          (or_cases (as_sealed octet csi count after) _ b.1);
-    }
+-- one with an odd number of ones is one bit off the header that it becomes
+correctable : (octet : ℕ) → octet < 256 → cond (violated octet) (ltb (turned_back octet) 256 && any_below (one_off octet) 8) true ≡ true
+unfolding sealed body syndrome_of named_by first_with crc_of remainder reduced ones ones_in
+correctable = each_below _ (256 ∷ []) _ _ refl
 
-as_received : ℕ → Reading → Mode → Bool
-as_received octet answer after = reading_eq answer (fields_of octet false) && mode_eq after Detection
+module _ (octet : ℕ) (h : octet < 256) where
+  held : (m : Mode) → syndrome_of octet == 0 ≡ true → violated octet ≡ false → Explained m octet (fields_of octet true) Correction
+  held m e o = record {
+    when_valid = λ _. record { csi_small = omega arith; count_small = omega arith; from = inl (sym (rw (e, o) at (intact octet h)), refl) };
+    when_invalid = λ v. absurd cc;
+  }
 
-explained : Mode → ℕ → Reading → Mode → Bool
-explained m octet answer after = cond answer.valid (traced m octet answer.csi answer.count after) (as_received octet answer after)
+  turned : violated octet ≡ true → Explained Correction octet (fields_of (turned_back octet) true) Detection
+  turned o =
+      let found = and_parts (ltb (turned_back octet) 256) (any_below (one_off octet) 8) (rw o at (correctable octet h)) in
+      let small = ltb-true (turned_back octet) 256 found.0 in
+      let at = some_below (one_off octet) 8 found.1 in
+      record {
+        when_valid = λ _. record { csi_small = omega arith; count_small = omega arith; from = inr (refl, refl, (at.0, at.1, eqb-true octet _ at.2)) };
+        when_invalid = λ v. absurd cc;
+      }
 
-explained_from : (m : Mode) (octet : ℕ) (answer : Reading) (after : Mode) → explained m octet answer after ≡ true → Explained m octet answer after
-unfolding explained as_received
-explained_from m octet answer after e = record {
-  when_valid = λ v.
-      let passed = sym (cond-true answer.valid (traced m octet answer.csi answer.count after) (as_received octet answer after) v) ∙ e in
-      traced_from m octet answer.csi answer.count after passed;
-  when_invalid = λ v.
-      let passed = sym (cond-false answer.valid (traced m octet answer.csi answer.count after) (as_received octet answer after) v) ∙ e in
-      let s = and_parts (reading_eq answer (fields_of octet false)) (mode_eq after Detection) passed in
-      (same_reading answer (fields_of octet false) s.0, same_mode after Detection s.1);
-}
+  invalid : (m : Mode) → Explained m octet (fields_of octet false) Detection
+  invalid m = record { when_valid = λ v. absurd cc; when_invalid = λ _. (refl, refl) }
 
-explained_test : (m : Mode) → all_below (λ octet. explained m octet (reading m octet) (mode_after m octet)) 256 ≡ true
-unfolding explained traced as_sealed one_off turned_at as_received reading mode_after finding sealed body syndrome_of named_by first_with crc_of remainder reduced ones ones_in
-explained_test Correction = refl
-explained_test Detection = refl
+  explained : (m : Mode) (agrees odd : Bool) → syndrome_of octet == 0 ≡ agrees → violated octet ≡ odd → Explained m octet (answered (judged m agrees odd) octet) (next_mode (judged m agrees odd))
+  explained m true false e o = held m e o
+  explained Correction true true e o = turned o
+  explained Correction false true e o = turned o
+  explained Correction false false e o = invalid Correction
+  explained Detection true true e o = invalid Detection
+  explained Detection false odd e o = invalid Detection
 
 pub readings_explained : (m : Mode) (octet : ℕ) → octet < 256 → Explained m octet (reading m octet) (mode_after m octet)
-readings_explained m octet h = explained_from m octet (reading m octet) (mode_after m octet) (each_below (λ o. explained m o (reading m o) (mode_after m o)) 256 (explained_test m) octet h)
+unfolding reading mode_after finding
+readings_explained m octet h = explained octet h m (syndrome_of octet == 0) (violated octet) refl refl
+
+pub explained_so : (m : Mode) (octet : ℕ) (answer : Reading) (after : Mode) → octet < 256 → answer ≡ reading m octet → after ≡ mode_after m octet → Explained m octet answer after
+explained_so m octet answer after h a n = rw (a, n) (readings_explained m octet h)

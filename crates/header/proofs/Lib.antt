@@ -1,5 +1,4 @@
 pub mod Computed
 pub mod Tables
-pub mod Same
 pub mod Sealed
 pub mod Found

@@ -1,17 +1,26 @@
--- A table of the code has at each place what its rule says: one test, computed over the whole table. Assumes nothing.
-use Rattle.std.proofs.Common.{◌≡◌, ℕ, ◌<◌, Bool, true, eqb, ltb, List, get_or, ltb-true, eqb-true}
-use Rattle.header.proofs.Computed.{all_below, each_below}
+-- The tables of the code have at each place what their rules say: computed over the whole of each. Assumes nothing.
+use Rattle.std.proofs.Common.{◌≡◌, ℕ, ◌<◌, true, refl, [], ◌∷◌, ltb, ltb-true}
+use Rattle.std.specs.Prelude.{bit_xor, slice_index}
+use Rattle.std.proofs.lemmas.Nat.{xor_lt}
+use Rattle.header.specs.Polynomials.{reduced, remainder}
+use Rattle.header.specs.Code.{crc_of, syndrome_of, first_with, named_by}
+use Rattle.header.specs.declared.code.TheConstants.{CRC, NAMED}
+use Rattle.header.proofs.Computed.{each_below}
 
--- the first n entries follow the rule
-abbrev pub follows : (ℕ → ℕ) → ℕ → List ℕ → Bool
-follows rule n table = all_below (λ k. eqb (get_or table k 0) (rule k)) n
+pub crc_at : (bits : ℕ) → bits < 16 → slice_index CRC bits ≡ crc_of bits
+unfolding crc_of remainder reduced
+crc_at = each_below _ (16 ∷ []) _ _ refl
 
-pub entry : (rule : ℕ → ℕ) (n : ℕ) (table : List ℕ) → follows rule n table ≡ true → (k : ℕ) → k < n → get_or table k 0 ≡ rule k
-entry rule n table passed k h = eqb-true (get_or table k 0) (rule k) (each_below (λ j. eqb (get_or table j 0) (rule j)) n passed k h)
+small : (bits : ℕ) → bits < 16 → ltb (crc_of bits) 8 ≡ true
+unfolding crc_of remainder reduced
+small = each_below _ (16 ∷ []) _ _ refl
 
--- the first n entries are below a bound
-abbrev pub within : ℕ → ℕ → List ℕ → Bool
-within bound n table = all_below (λ k. ltb (get_or table k 0) bound) n
+pub crc_small : (bits : ℕ) → bits < 16 → crc_of bits < 8
+crc_small bits h = ltb-true (crc_of bits) 8 (small bits h)
 
-pub entry_within : (bound n : ℕ) (table : List ℕ) → within bound n table ≡ true → (k : ℕ) → k < n → get_or table k 0 < bound
-entry_within bound n table passed k h = ltb-true (get_or table k 0) bound (each_below (λ j. ltb (get_or table j 0) bound) n passed k h)
+pub xor_small : (a b : ℕ) → a < 8 → b < 8 → bit_xor a b < 8
+xor_small = xor_lt 3
+
+pub named_at : (s : ℕ) → s < 8 → slice_index NAMED s ≡ named_by s
+unfolding named_by first_with syndrome_of crc_of remainder reduced
+named_at = each_below _ (8 ∷ []) _ _ refl

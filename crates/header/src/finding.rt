@@ -43,8 +43,7 @@ impl Finding {
     {
         match self {
             Finding::Intact => Mode::Correction,
-            Finding::Correctable => Mode::Detection,
-            Finding::Invalid => Mode::Detection,
+            Finding::Correctable | Finding::Invalid => Mode::Detection,
         }
     }
 }

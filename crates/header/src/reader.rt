@@ -4,7 +4,7 @@ ghost use Rattle.header.specs.declared.reader.Mode.TheVariants.{Correction};
 ghost use Rattle.header.specs.Reading.{mode_name, reading, mode_after};
 ghost use Rattle.header.specs.Laws.{Explained};
 
-use crate::code::syndrome;
+use crate::code::{parity, syndrome};
 use crate::finding::Finding;
 use std::fmt;
 
@@ -38,6 +38,7 @@ impl fmt::Display for Mode {
 }
 
 /// What was read from a header octet.
+// Kept: no Option, since the CSI and the count are told of an invalid header too, as they were received.
 #[derive(Clone, Copy, PartialEq, Eq, Debug)]
 pub struct Reading {
     pub csi: u8,
@@ -49,6 +50,14 @@ pub struct Reading {
 #[derive(Clone, Copy, PartialEq, Eq, Debug)]
 pub struct Reader {
     mode: Mode,
+}
+
+impl Default for Reader {
+    ghost is_default = { λ reader. reader.mode ≡ Correction };
+
+    fn default() -> Reader {
+        Reader::new()
+    }
 }
 
 impl Reader {
@@ -70,29 +79,18 @@ impl Reader {
     pub fn mode(&self) -> Mode
         ensures { result ≡ self.now.mode }
     {
-        let Reader { mode } = *self;
-        mode
+        self.mode
     }
 
     /// Reads one header octet, and moves the mode.
+    #[tactic(auto, using(crate::proofs::Found::explained_so), unfolding(crate::specs::Reading::finding, crate::specs::Reading::reading, crate::specs::Reading::mode_after))]
     pub fn read(&mut self, octet: u8) -> Reading
         ensures value { result ≡ reading self.old.mode octet }
         ensures mode { self.new.mode ≡ mode_after self.old.mode octet }
         ensures explained { Explained self.old.mode octet result self.new.mode }
     {
-        let (reading, mode) = read_in(self.mode, octet);
-        self.mode = mode;
-        reading
+        let finding = Finding::judge(self.mode, syndrome(octet) == 0, parity(octet) == 1);
+        self.mode = finding.next_mode();
+        finding.answer(octet)
     }
-}
-
-// What an octet is read as in a mode, and the mode that follows.
-fn read_in(mode: Mode, octet: u8) -> (Reading, Mode)
-    ensures value { result.0 ≡ reading mode octet }
-    ensures mode { result.1 ≡ mode_after mode octet }
-    ensures explained { Explained mode octet result.0 result.1 }
-{
-    let odd = octet.count_ones() % 2 == 1;
-    let finding = Finding::judge(mode, syndrome(octet) == 0, odd);
-    (finding.answer(octet), finding.next_mode())
 }

@@ -1,6 +1,7 @@
 -- Laws of a list that is read from a slot on and round the end.
 use Rattle.std.proofs.Common.{◌≡◌, ℕ, ◌+◌, ◌-◌, ◌%◌, ◌<◌, ◌≤◌, List, [], ◌∷◌, ◌++◌, length, get_or, take, drop, set, sym, refl, ap, ◌∙◌, ⊎_elim, mod-eq_of_lt, add-one, arith, length-append, length-drop, length-take}
-use native.Mathlib.Nat.{mod-eq-sub-mod, mod-add-mod, add-mod_right}
+use native.Mathlib.Nat.{mod-eq-sub-mod, mod-add-mod}
+use Rattle.std.proofs.Math.Nat.{mod_self}
 use lib.Seq.{take-set-lt}
 use Rattle.std.proofs.lemmas.List.{length-take-le, take-set-le, drop-set-add, drop-set-lt, set-append_left, set-append_right, take_more_set, append-nil, append_assoc, drop_more, take_more, take-append-le, take_all, drop_all}
 use Rattle.std.proofs.lemmas.Bool.{cases_lt}
@@ -15,11 +16,8 @@ slot_after_far n h c l m = mod-eq-sub-mod l ∙ mod-eq_of_lt (omega arith)
 pub slot_after_push : (n h c : ℕ) → slot_after n h (c + 1) ≡ (slot_after n h c + 1) % n
 slot_after_push n h c = let e : h + (c + 1) ≡ h + c + 1 = omega arith in ap (λ (k : ℕ). k % n) e ∙ sym (mod-add-mod (h + c) n 1)
 
-pub slot_after_pop : (n h c : ℕ) → slot_after n (h + 1) c ≡ slot_after n h (c + 1)
-slot_after_pop n h c = let e : h + 1 + c ≡ h + (c + 1) = omega arith in ap (λ (k : ℕ). k % n) e
-
-pub slot_after_wrap : (n c : ℕ) → slot_after n n c ≡ slot_after n 0 c
-slot_after_wrap n c = let e : n + c ≡ c + n = omega arith in let z : 0 + c ≡ c = omega arith in ap (λ (k : ℕ). k % n) e ∙ add-mod_right c n ∙ sym (ap (λ (k : ℕ). k % n) z)
+pub slot_after_pop : (n h c : ℕ) → slot_after n ((h + 1) % n) c ≡ slot_after n h (c + 1)
+slot_after_pop n h c = let e : h + 1 + c ≡ h + (c + 1) = omega arith in mod-add-mod (h + 1) n c ∙ ap (λ (k : ℕ). k % n) e
 
 module _ {A : Type 0} where
   pub length_round : (xs : List A) (h : ℕ) → length (round_from xs h) ≡ length xs
@@ -64,8 +62,19 @@ module _ {A : Type 0} where
       let t = length_round xs h in
       ap (take (c + 1)) (set_round xs h c x lh lc) ∙ take_more_set (round_from xs h) c x (omega arith)
 
+  -- a head past the last slot is at the first
+  held_wrap : (xs : List A) (h c : ℕ) → h ≤ length xs → held xs (h % length xs) c ≡ held xs h c
+  held_wrap xs h c l =
+      ⊎_elim
+      (λ under. ap (λ (i : ℕ). held xs i c) (mod-eq_of_lt under))
+      (λ over.
+      let z : h % length xs ≡ 0 = ap (λ (n : ℕ). n % length xs) (omega arith) ∙ mod_self (length xs) in
+      let e : round_from xs h ≡ round_from xs 0 = rw (drop_all h xs over, take_all h xs over, append-nil xs) refl in
+      ap (λ (i : ℕ). held xs i c) z ∙ sym (ap (take c) e))
+      (cases_lt h (length xs))
+
   -- the oldest entry goes
-  pub held_pop : (xs : List A) (h c : ℕ) (d : A) → h < length xs → c < length xs → held xs h (c + 1) ≡ get_or xs h d ∷ held xs (h + 1) c
+  pub held_pop : (xs : List A) (h c : ℕ) (d : A) → h < length xs → c < length xs → held xs h (c + 1) ≡ get_or xs h d ∷ held xs ((h + 1) % length xs) c
   held_pop xs h c d lh lc =
       let x : A = get_or xs h d in
       let m : List A = drop (h + 1) xs ++ take h xs in
@@ -78,8 +87,4 @@ module _ {A : Type 0} where
       let f : round_from xs (h + 1) ≡ m ++ x ∷ [] = ap (λ (z : List A). drop (h + 1) xs ++ z) b ∙ sym (append_assoc (drop (h + 1) xs) (take h xs) (x ∷ [])) in
       let q : take c (m ++ x ∷ []) ≡ take c m = take-append-le c m (x ∷ []) (omega arith) in
       let r : take (c + 1) (x ∷ m) ≡ x ∷ take c m = rw add-one refl in
-      ap (take (c + 1)) e ∙ r ∙ ap (λ (z : List A). x ∷ z) (sym (ap (take c) f ∙ q))
-
-  -- a head past the last slot is at the first
-  pub held_wrap : (xs : List A) (c : ℕ) → held xs (length xs) c ≡ held xs 0 c
-  held_wrap xs c = ap (take c) (ap (λ (z : List A). z ++ take (length xs) xs) (drop_all (length xs) xs (omega arith)) ∙ take_all (length xs) xs (omega arith) ∙ sym (append-nil xs))
+      ap (take (c + 1)) e ∙ r ∙ ap (λ (z : List A). x ∷ z) (sym (held_wrap xs (h + 1) c (omega arith) ∙ ap (take c) f ∙ q))

@@ -1,5 +1,7 @@
 // The calls of a ring.
-ghost use Rattle.std.specs.Prelude.{◌≡◌, ◌-◌, ◌<◌, [], length};
+#![tactic(auto, using(crate::proofs::Rings::counts))]
+
+ghost use Rattle.std.specs.Prelude.{◌≡◌, ◌-◌, ◌<◌, ◌↔◌, [], length, IsTrue};
 ghost use Rattle.ring.specs.Rings.{entries, slots_of, loan_of, next_slot, Push, Pop, First};
 
 use crate::ring::Ring;
@@ -7,6 +9,7 @@ use cell::{Fault, Part, Refusal};
 
 impl<'a, T: Copy> Ring<'a, T> {
     /// An empty ring over these slots, which stay as they are. The first push writes slot 0.
+    #[tactic(auto, using(crate::proofs::Rings::counts), unfolding(crate::specs::Rings::next_slot))]
     pub fn new(slots: &'a mut [T]) -> Ring<'a, T>
         ensures empty { entries result ≡ [] }
         ensures over { slots_of result ≡ slots.old }
@@ -25,6 +28,13 @@ impl<'a, T: Copy> Ring<'a, T> {
         ensures { result ≡ length (entries self.now) }
     {
         self.count
+    }
+
+    /// Whether there is no entry.
+    pub fn is_empty(&self) -> bool
+        ensures { IsTrue result ↔ (entries self.now ≡ []) }
+    {
+        self.count == 0
     }
 
     /// How many slots are free: how many more pushes are accepted.
@@ -52,24 +62,25 @@ impl<'a, T: Copy> Ring<'a, T> {
         ensures { Pop self.old result self.new }
     {
         let oldest = self.first()?;
-        let after = self.head + 1;
-        self.head = if after < self.slots.len() { after } else { 0 };
+        self.head = (self.head + 1) % self.slots.len();
         self.count -= 1;
         Ok(oldest)
     }
 
     /// The oldest entry. Refused if there is none.
+    #[tactic(auto, using(crate::proofs::Rings::counts, crate::proofs::Rings::first_is))]
     pub fn first(&self) -> Result<T, Fault>
         ensures { First self.now result }
     {
-        if self.count == 0 {
+        if self.is_empty() {
             return Err(Fault::new(Refusal::Empty, Part::Ring));
         }
-        let slots: &[T] = self.slots;
-        Ok(slots[self.head])
+        Ok(self.slots[self.head])
     }
 
-    // The slot that the next push writes. Head and count are compared before they are added, since their sum may not fit.
+    // The slot that the next push writes.
+    // Kept: no `%` here, and head and count are compared before they are added, since their sum may not fit.
+    #[tactic(auto, unfolding(crate::specs::Rings::next_slot))]
     fn next_slot(&self) -> usize
         requires { self.now.count < length self.now.slots.now }
         ensures value { result ≡ next_slot self.now }

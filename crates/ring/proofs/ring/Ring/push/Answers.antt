@@ -1,13 +1,6 @@
 use Rattle.std.proofs.Common.{ℕ, set, refl, ap, arith}
-use Rattle.ring.proofs.Rings.{pushed, length-entries}
+use Rattle.ring.proofs.Rings.{pushed}
 use Rattle.ring.proofs.ring.Ring.push.Goals as goal
-
-pub returns-then-self : goal.returns-then-self
-returns-then-self g c =
-    let r = c.args.self.now in
-    let n = length-entries r in
-    let f = r.fits.0 in
-    (omega arith, c.new.ensures, refl)
 
 pub returns : goal.returns
 returns g c =
