@@ -1,6 +1,7 @@
 -- Laws of a spool: what put, drop and opening do to its meaning.
 use Rattle.std.proofs.Common.{◌≡◌, ℕ, zero, suc, ◌+◌, ◌-◌, ◌<◌, ◌≤◌, ◌≢◌, List, [], ◌∷◌, ◌++◌, length, take, drop, Ok, Err, sym, refl, ap, ◌∙◌, subst, ⊎_elim, arith, length-drop}
 use Rattle.std.proofs.lemmas.List.FromFn.{map-range_with_len_more}
+use Rattle.std.proofs.Math.Bridge.{le_prop}
 use Rattle.std.proofs.lemmas.Bool.{cases_eq}
 use Rattle.std.proofs.lemmas.Bool.Decides.{nat_tests}
 use Rattle.cell.proofs.Cells.{turned_none}
@@ -14,9 +15,16 @@ use Rattle.spool.specs.declared.spool.Spool.{Spool}
 use Rattle.spool.specs.declared.survey.Survey.{Survey}
 use Rattle.spool.specs.Records.{Marked, Within, record_at, cell_at, parted, record_of, with_record}
 use Rattle.spool.specs.Spools.{bytes_of, loan_of, cells_in, meaning_in, spool_meaning, IsOpen, Stored, Freed}
-use Rattle.spool.specs.Surveys.{survey_of, records_of, mark_in, GoodLength, Whole, Surveyed}
+use Rattle.spool.specs.Surveys.{Fit, survey_of, records_of, mark_in, GoodLength, Whole, Surveyed}
 use Rattle.spool.proofs.Records.{length_record, length_with, record_there, record_elsewhere}
 use Rattle.spool.proofs.Surveys.{is_taken, is_waiting, opens_again}
+
+abbrev with_fit : (s : Spool) → Fit (bytes_of s) s.survey → Spool
+with_fit s fit = record { bytes = s.bytes; survey = s.survey; fit = fit }
+
+-- a spool with the same bytes and counts is the same
+pub same_spool : (s : Spool) (fit : Fit (bytes_of s) s.survey) → ◌≡◌ {A = Spool} (record { bytes = s.bytes; survey = s.survey; fit = fit }) s
+same_spool s fit = ap (λ (f : Fit (bytes_of s) s.survey). with_fit s f) (le_prop fit s.fit)
 
 -- the cells in some records that are as they were
 cells_same : (bytes other : List ℕ) (from count : ℕ) → ((k : ℕ) → from ≤ k → k < from + count → record_at bytes k ≡ record_at other k) → cells_in bytes from count ≡ cells_in other from count
@@ -28,6 +36,11 @@ cells_same bytes other from (suc count) same =
 pub first_cell_in : (bytes : List ℕ) (from count : ℕ) → 0 < count → cells_in bytes from count ≡ cell_at bytes from ∷ cells_in bytes (from + 1) (count - 1)
 first_cell_in bytes from zero l = absurd (omega arith)
 first_cell_in bytes from (suc count) l = let e : count ≡ suc count - 1 = omega arith in ap (λ (n : ℕ). cell_at bytes from ∷ cells_in bytes (from + 1) n) e
+
+-- a cell that is looked at is that of the first record that waits
+pub first_is : (bytes : List ℕ) (from count : ℕ) (cell : Cell) → cells_in bytes from count ≡ cell ∷ drop 1 (cells_in bytes from count) → (0 < count) × (cell ≡ cell_at bytes from)
+first_is bytes from zero cell e = absurd (cc)
+first_is bytes from (suc count) cell e = (omega arith, cc)
 
 pub looks : (bytes : List ℕ) (from count : ℕ) (cell : Cell) → 0 < count → cell ≡ cell_at bytes from → cells_in bytes from count ≡ cell ∷ drop 1 (cells_in bytes from count)
 looks bytes from count cell l e =

@@ -16,7 +16,7 @@ impl<'a> Spool<'a> {
     {
         Spool {
             bytes,
-            survey: Survey::NONE,
+            survey: Survey::default(),
         }
     }
 
@@ -26,15 +26,8 @@ impl<'a> Spool<'a> {
         ensures answer { Opened self.old result self.new }
         ensures reopens { Reopened self.old result self.new }
     {
-        let survey = self.surveyed()?;
-        self.survey = survey;
+        let bytes = &mut *self.bytes;
+        self.survey = Survey::of(bytes)?;
         Ok(())
-    }
-
-    // The records that the bytes hold.
-    fn surveyed(&self) -> Result<Survey, Fault>
-        ensures { Surveyed (bytes_of self.now) result }
-    {
-        Survey::of(self.bytes)
     }
 }
