@@ -24,8 +24,7 @@ impl<'a> Carriage for Spool<'a> {
             return Err(Fault::new(Refusal::Full, Part::Spool));
         }
         let number = self.survey.taken + self.survey.waiting;
-        let bytes = &mut *self.bytes;
-        Record::write(bytes, number, Mark::Waiting, cell);
+        Record::write(self.bytes, number, Mark::Waiting, cell);
         self.survey.unused -= 1;
         self.survey.waiting += 1;
         Ok(())
@@ -40,8 +39,7 @@ impl<'a> Carriage for Spool<'a> {
 
     fn drop_first(&mut self) -> Result<(), Fault> {
         let cell = self.look()?;
-        let bytes = &mut *self.bytes;
-        Record::write(bytes, self.survey.taken, Mark::Taken, cell);
+        Record::write(self.bytes, self.survey.taken, Mark::Taken, cell);
         self.survey.waiting -= 1;
         self.survey.taken += 1;
         Ok(())
