@@ -1,5 +1,5 @@
 -- Laws of records: what a write into one leaves in it and in the others, and what a mark is read as.
-use Rattle.std.proofs.Common.{◌≡◌, ℕ, ◌+◌, ◌-◌, ◌*◌, ◌<◌, ◌≤◌, ◌≢◌, List, [], ◌∷◌, ◌++◌, length, get_or, take, drop, set, Some, Option, sym, refl, ap, ◌∙◌, ⊎_elim, arith, lit≤, length-append, length-drop, length-take, take-add}
+use Rattle.std.proofs.Common.{◌≡◌, ℕ, zero, suc, ◌+◌, ◌-◌, ◌*◌, ◌/◌, ◌<◌, ◌≤◌, ◌≢◌, List, [], ◌∷◌, ◌++◌, length, get_or, take, drop, set, Some, Option, sym, refl, ap, ◌∙◌, ⊎_elim, arith, lit≤, length-append, length-drop, length-take, take-add}
 use borrow.Rule.Slice.PartMut.{put_mid}
 use lib.Seq.{paste}
 use Rattle.std.proofs.lemmas.List.Edits.{paste_all}
@@ -7,6 +7,7 @@ use Rattle.std.proofs.lemmas.List.{append_assoc, drop-append-le, drop_at, drop-d
 use Rattle.std.proofs.lemmas.Slice.{take-put_mid, take-put_mid_below, drop-put_mid, between-put_mid, between_is}
 use Rattle.std.proofs.lemmas.Bool.{cases_lt}
 use Rattle.std.proofs.lemmas.Bool.Decides.{nat_tests}
+use Rattle.std.specs.Simd.{first_chunks}
 use Rattle.cell.specs.declared.octets.Cell.{Cell}
 use Rattle.spool.specs.declared.record.Mark.{Mark}
 use Rattle.spool.specs.declared.record.Mark.TheVariants.{Taken, Waiting, Unused}
@@ -55,16 +56,16 @@ record_elsewhere bytes new number other w n apart =
     ap (take 50) (ap (drop (50 * other)) (placed bytes new number) ∙ drop-put_mid (50 * number) 50 bytes new (50 * other) (omega arith) (omega arith) n) in
     ⊎_elim before behind (cases_lt other number)
 
--- the next 50 bytes of those from a record's first on are that record, and the rest begins with the next one
-pub next_record : (bytes xs rest : List ℕ) (number : ℕ) → 50 * number ≤ length bytes → drop (50 * number) bytes ≡ xs ++ rest → length xs ≡ 50 → Within (length bytes) number × (xs ≡ record_at bytes number) × (rest ≡ drop (50 * (number + 1)) bytes)
-next_record bytes xs rest number l e n =
-    let parts : length (drop (50 * number) bytes) ≡ 50 + length rest = ap length e ∙ length-append xs rest ∙ ap (λ (k : ℕ). k + length rest) n in
-    let d = length-drop (50 * number) bytes in
-    let on : 50 * number + 50 ≡ 50 * (number + 1) = omega arith in (
-      omega arith,
-      sym (take_at xs rest 50 n) ∙ ap (take 50) (sym e),
-      sym (drop_at xs rest 50 n) ∙ ap (drop 50) (sym e) ∙ drop-drop 50 (50 * number) bytes ∙ ap (λ (k : ℕ). drop k bytes) on,
-    )
+-- one of the records that bytes hold, of all of them as arrays
+chunk_at : (bytes : List ℕ) (count number : ℕ) (d : List ℕ) → number < count → get_or (first_chunks 50 count bytes) number d ≡ record_at bytes number
+chunk_at bytes zero number d l = absurd (omega arith)
+chunk_at bytes (suc count) zero d l = refl
+chunk_at bytes (suc count) (suc number) d l =
+    let on : 50 + 50 * number ≡ 50 * suc number = omega arith in
+    chunk_at (drop 50 bytes) count number d (omega arith) ∙ ap (take 50) (drop-drop (50 * number) 50 bytes ∙ ap (λ (k : ℕ). drop k bytes) on)
+
+pub record_in : (bytes : List ℕ) (records : List (List ℕ)) (number : ℕ) (d : List ℕ) → records ≡ first_chunks 50 (length bytes / 50) bytes → number < length bytes / 50 → Within (length bytes) number × (get_or records number d ≡ record_at bytes number)
+record_in bytes records number d e l = (omega arith, ap (λ (rs : List (List ℕ)). get_or rs number d) e ∙ chunk_at bytes (length bytes / 50) number d l)
 
 -- a mark and a cell are written, one after the other
 pub record_written : (bytes octets : List ℕ) (number : ℕ) (mark : Mark) → Within (length bytes) number → length octets ≡ 48 → put_mid (50 * number + 2) (50 * number + 50 - (50 * number + 2)) (put_mid (50 * number) (50 * number + 2 - 50 * number) bytes (mark_bytes mark)) octets ≡ with_record bytes number (mark_bytes mark ++ octets)

@@ -64,11 +64,9 @@ impl Record {
     pub fn at(bytes: &[u8], number: usize) -> Option<Record>
         ensures { MatchOption result (Within (length bytes.now) number → ⊥) (λ found. Within (length bytes.now) number × (found ≡ parted (record_at bytes.now number))) }
     {
-        if number >= bytes.len() / Record::LEN {
-            return None;
-        }
-        let start = Record::LEN * number;
-        Some(Record::apart(&bytes[start..start + Record::LEN]))
+        let (records, _) = bytes.as_chunks::<{ Record::LEN }>();
+        let record = records.get(number)?;
+        Some(Record::apart(record))
     }
 
     // Writes a mark and a cell into the record of this number. All other bytes stay as they are.
@@ -87,16 +85,14 @@ impl Record {
         requires { length bytes.now ≡ 50 }
         ensures { result ≡ parted bytes.now }
     {
+        let [first, second, rest @ ..] = bytes else {
+            unreachable()
+        };
         let mut octets = [0; 48];
-        match bytes {
-            [first, second, rest @ ..] => {
-                octets.copy_from_slice(rest);
-                Record {
-                    mark: Mark::try_from([*first, *second]).ok(),
-                    cell: Cell { octets },
-                }
-            }
-            _ => unreachable(),
+        octets.copy_from_slice(rest);
+        Record {
+            mark: Mark::try_from([*first, *second]).ok(),
+            cell: Cell { octets },
         }
     }
 }

@@ -18,8 +18,9 @@ impl Survey {
             return Err(Fault::new(Refusal::SpoolLength, Part::Spool));
         }
         let mut survey = Survey::default();
-        for (number, bytes) in bytes.chunks_exact(Record::LEN).enumerate() {
-            let mark = Record::apart(bytes).mark;
+        let (records, _) = bytes.as_chunks::<{ Record::LEN }>();
+        for (number, record) in records.iter().enumerate() {
+            let mark = Record::apart(record).mark;
             survey = survey.with(mark).ok_or(Fault {
                 refusal: Refusal::SpoolRecord,
                 part: Part::Spool,
