@@ -1,29 +1,14 @@
 -- Laws of records: what a write into one leaves in it and in the others, and what a mark is read as.
-use Rattle.std.proofs.Common.{◌≡◌, ℕ, zero, suc, ◌+◌, ◌-◌, ◌*◌, ◌/◌, ◌<◌, ◌≤◌, ◌≢◌, List, [], ◌∷◌, ◌++◌, length, get_or, take, drop, set, Some, Option, sym, refl, ap, ◌∙◌, ⊎_elim, arith, lit≤, length-append, length-drop, length-take, take-add}
+use Rattle.std.proofs.Common.{◌≡◌, ℕ, zero, suc, ◌+◌, ◌-◌, ◌*◌, ◌/◌, ◌<◌, ◌≤◌, ◌≢◌, List, [], ◌∷◌, ◌++◌, length, get_or, take, drop, Some, sym, refl, ap, ◌∙◌, ⊎_elim, arith, length-append, length-drop, length-take}
 use borrow.Rule.Slice.PartMut.{put_mid}
-use lib.Seq.{paste}
-use Rattle.std.proofs.lemmas.List.Edits.{paste_all}
-use Rattle.std.proofs.lemmas.List.{append_assoc, drop-append-le, drop_at, drop-drop, drop_more, length-take-le, set-append_right, set_at, take-append-drop, take_at, take_rest, take-take}
-use Rattle.std.proofs.lemmas.Slice.{take-put_mid, take-put_mid_below, drop-put_mid, between-put_mid, between_is}
+use Rattle.std.proofs.lemmas.List.{append_assoc, drop_at, drop-drop, drop-take, length-take-le, take_at}
+use Rattle.std.proofs.lemmas.Slice.{take-put_mid, take-put_mid_below, drop-put_mid}
 use Rattle.std.proofs.lemmas.Bool.{cases_lt}
 use Rattle.std.proofs.lemmas.Bool.Decides.{nat_tests}
 use Rattle.std.specs.Simd.{first_chunks}
-use Rattle.cell.specs.declared.octets.Cell.{Cell}
 use Rattle.spool.specs.declared.record.Mark.{Mark}
 use Rattle.spool.specs.declared.record.Mark.TheVariants.{Taken, Waiting, Unused}
-use Rattle.spool.specs.declared.record.Record.{Record}
-use Rattle.spool.specs.Records.{first_byte, second_byte, mark_bytes, mark_of, record_of, parted, Within, record_at, Marked, mark_at, cell_at, with_record}
-
-abbrev pub made : Option Mark → List ℕ → Record
-made mark octets = record { mark = mark; cell = record { octets = octets } }
-
--- a record's parts are those of its bytes
-pub parted_is : (bytes octets : List ℕ) (mark : Option Mark) → mark ≡ mark_of (get_or bytes 0 0) (get_or bytes 1 0) → octets ≡ take (length bytes - 2) (drop 2 bytes) → made mark octets ≡ parted bytes
-parted_is bytes octets mark m o = ap (λ (k : Option Mark). made k octets) m ∙ ap (made (mark_of (get_or bytes 0 0) (get_or bytes 1 0))) (o ∙ take_rest bytes 2)
-
--- the bytes from the record's first on, as a range
-pub ranged : (bytes : List ℕ) (number : ℕ) → take (50 * number + 50 - 50 * number) (drop (50 * number) bytes) ≡ record_at bytes number
-ranged bytes number = let e : 50 * number + 50 - 50 * number ≡ 50 = omega arith in ap (λ (k : ℕ). take k (drop (50 * number) bytes)) e
+use Rattle.spool.specs.Records.{first_byte, second_byte, mark_bytes, mark_of, Within, record_at, Marked, mark_at, with_record}
 
 -- a write to the range of a record
 placed : (bytes new : List ℕ) (number : ℕ) → with_record bytes number new ≡ put_mid (50 * number) 50 bytes new
@@ -38,19 +23,16 @@ length_with bytes new number w n = simp (length-append, length-take, length-drop
 -- the record that was written
 pub record_there : (bytes new : List ℕ) (number : ℕ) → Within (length bytes) number → length new ≡ 50 → record_at (with_record bytes number new) number ≡ new
 record_there bytes new number w n =
-    sym (ranged (with_record bytes number new) number)
-    ∙ ap (λ (bs : List ℕ). take (50 * number + 50 - 50 * number) (drop (50 * number) bs)) (placed bytes new number)
-    ∙ between-put_mid (50 * number) 50 bytes new (50 * number + 50) (omega arith) (omega arith)
+    ap (take 50) (drop_at (take (50 * number) bytes) (new ++ drop (50 * number + 50) bytes) (50 * number) (length-take-le (50 * number) bytes (omega arith)))
+    ∙ take_at new (drop (50 * number + 50) bytes) 50 n
 
 -- and any other one
 pub record_elsewhere : (bytes new : List ℕ) (number other : ℕ) → Within (length bytes) number → length new ≡ 50 → other ≢ number → record_at (with_record bytes number new) other ≡ record_at bytes other
 record_elsewhere bytes new number other w n apart =
     let before : other < number → record_at (with_record bytes number new) other ≡ record_at bytes other = λ l.
-    sym (ranged (with_record bytes number new) other)
-    ∙ between_is (with_record bytes number new) (50 * other) (50 * other + 50)
+    sym (drop-take (50 * other) 50 (with_record bytes number new))
     ∙ ap (drop (50 * other)) (ap (take (50 * other + 50)) (placed bytes new number) ∙ take-put_mid_below (50 * number) 50 bytes new (50 * other + 50) (omega arith) (omega arith))
-    ∙ sym (between_is bytes (50 * other) (50 * other + 50))
-    ∙ ranged bytes other in
+    ∙ drop-take (50 * other) 50 bytes in
     let behind : number ≤ other → record_at (with_record bytes number new) other ≡ record_at bytes other = λ l.
     let m : number < other = omega arith in
     ap (take 50) (ap (drop (50 * other)) (placed bytes new number) ∙ drop-put_mid (50 * number) 50 bytes new (50 * other) (omega arith) (omega arith) n) in
@@ -76,7 +58,7 @@ record_written bytes octets number mark w n =
     let on : a + 2 + 48 ≡ a + 50 = omega arith in
     let front : take (a + 2) (put_mid a 2 bytes (mark_bytes mark)) ≡ take a bytes ++ mark_bytes mark = take-put_mid a 2 bytes (mark_bytes mark) (a + 2) refl (omega arith) in
     let back : drop (a + 2) (put_mid a 2 bytes (mark_bytes mark)) ≡ drop (a + 2) bytes = drop-put_mid a 2 bytes (mark_bytes mark) (a + 2) (omega arith) (omega arith) refl in
-    rw (two, rest, front, back, drop-drop 48 (a + 2) bytes, on, append_assoc)
+    rw (two, rest, front, back, drop-drop 48 (a + 2) bytes, on, append_assoc (take a bytes) (mark_bytes mark) (octets ++ drop (a + 50) bytes))
 
 -- the mark of two bytes, and the two bytes of a mark
 pub mark_read : (mark : Mark) → mark_of (first_byte mark) (second_byte mark) ≡ Some mark

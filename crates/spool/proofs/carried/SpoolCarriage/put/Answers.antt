@@ -1,9 +1,18 @@
 use Rattle.std.proofs.Common.{◌≡◌, length, refl, arith, rules}
-use Rattle.spool.proofs.Spools.{put_into}
+use Rattle.spool.proofs.Spools.{put_means, put_whole}
 use Rattle.spool.proofs.carried.SpoolCarriage.put.Goals as goal
 
 pub returns : goal.returns
 returns c =
-    let n : length c.args.cell.octets ≡ 48 = search rules in
-    let p = put_into c.args.self.now _ c.args.cell (omega arith) n c.write.ensures refl refl in
-    record { meaning = p.0; store = p.1 }
+    let s = c.args.self.now in
+    let cell = c.args.cell in
+    let n : length cell.octets ≡ 48 = search rules in
+    record {
+      meaning = rw c.write.ensures (put_means s.bytes.now s.survey cell s.fit (omega arith) n);
+      store = record {
+        written = c.write.ensures;
+        counts = refl;
+        loan_kept = refl;
+        stays_open = λ was-open. rw c.write.ensures (put_whole s.bytes.now s.survey cell (omega arith) n was-open);
+      };
+    }

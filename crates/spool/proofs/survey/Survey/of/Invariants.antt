@@ -1,4 +1,4 @@
-use Rattle.std.proofs.Common.{◌≡◌, ◌*◌}
+use Rattle.std.proofs.Common.{◌≡◌}
 use Rattle.spool.specs.Surveys.{records_of, Ordered}
 use Rattle.spool.proofs.survey.Survey.of.Given as goal
 
