@@ -45,7 +45,7 @@ grown s more Unused e = record { one_more = grind (arith, nat_tests); before = �
 
 -- one record more is counted
 pub counts_one : (bytes : List ℕ) (s more : Survey) (number : ℕ) (read : Option Mark) → records_of s ≡ number → Ordered bytes s → Within (length bytes) number → read ≡ mark_at bytes number → counted s read ≡ Some more → (records_of more ≡ number + 1) × Ordered bytes more
-counts_one bytes s more number None n o w r e = let z : ◌≡◌ {A = ℕ} 0 1 = cc in absurd (omega arith)
+counts_one bytes s more number None n o w r e = absurd (cc)
 counts_one bytes s more number (Some mark) n o w r e =
     let g = grown s more mark e in
     let one = g.one_more in
@@ -66,7 +66,7 @@ pub counts_none : (s : Survey) (read : Option Mark) → counted s read ≡ None 
 counts_none s None e = tt
 counts_none s (Some Taken) e = grind (arith, nat_tests)
 counts_none s (Some Waiting) e = grind (arith, nat_tests)
-counts_none s (Some Unused) e = let z : ◌≡◌ {A = ℕ} 0 1 = cc in absurd (omega arith)
+counts_none s (Some Unused) e = cc
 
 same_marks : (bytes : List ℕ) (s other : Survey) (k : ℕ) → Ordered bytes s → Ordered bytes other → k < records_of s → k < records_of other → mark_in s k ≡ mark_in other k
 same_marks bytes s other k o p l m = one_mark bytes k (mark_in s k) (mark_in other k) (o k l) (p k m)

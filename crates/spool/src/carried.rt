@@ -1,9 +1,6 @@
 // The spool as a carriage. It has no fates, and its room is its unused records.
-ghost use Rattle.std.specs.Prelude.{◌≡◌, ◌<◌, ◌++◌, take};
 ghost use Rattle.cell.specs.declared.fault.Part.TheVariants.{Spool as InSpool};
-ghost use Rattle.spool.specs.Records.{record_at, cell_at, record_of, with_record};
-ghost use Rattle.spool.specs.Spools.{bytes_of, loan_of, spool_meaning, Stored, Freed};
-ghost use Rattle.spool.specs.Surveys.{records_of};
+ghost use Rattle.spool.specs.Spools.{spool_meaning, Stored, Freed};
 
 use crate::record::{Mark, Record};
 use crate::spool::Spool;

@@ -81,6 +81,7 @@ impl Record {
     }
 
     // Takes the bytes of a record apart.
+    // Kept: a slice, which may have another length, since a pattern that names the rest of an array gets no proof.
     pub(crate) fn apart(bytes: &[u8]) -> Record
         requires { length bytes.now ≡ 50 }
         ensures { result ≡ parted bytes.now }
