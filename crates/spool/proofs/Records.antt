@@ -1,28 +1,14 @@
 -- Laws of records: what a write into one leaves in it and in the others, and what a mark is read as.
-use Rattle.std.proofs.Common.{◌≡◌, ℕ, ◌+◌, ◌-◌, ◌*◌, ◌<◌, ◌≤◌, ◌≢◌, List, [], ◌∷◌, ◌++◌, length, get_or, take, drop, set, Some, Option, sym, refl, ap, ◌∙◌, ⊎_elim, arith, lit≤, length-append, length-drop, length-take, take-add}
+use Rattle.std.proofs.Common.{◌≡◌, ℕ, zero, suc, ◌+◌, ◌-◌, ◌*◌, ◌/◌, ◌<◌, ◌≤◌, ◌≢◌, List, [], ◌∷◌, ◌++◌, length, get_or, take, drop, Some, sym, refl, ap, ◌∙◌, ⊎_elim, arith, length-append, length-drop, length-take}
 use borrow.Rule.Slice.PartMut.{put_mid}
-use lib.Seq.{paste}
-use Rattle.std.proofs.lemmas.List.Edits.{paste_all}
-use Rattle.std.proofs.lemmas.List.{append_assoc, drop-append-le, drop_at, drop-drop, drop_more, length-take-le, set-append_right, set_at, take-append-drop, take_at, take_rest, take-take}
-use Rattle.std.proofs.lemmas.Slice.{take-put_mid_below, drop-put_mid, between-put_mid, between_is}
+use Rattle.std.proofs.lemmas.List.{append_assoc, drop_at, drop-drop, drop-take, length-take-le, take_at}
+use Rattle.std.proofs.lemmas.Slice.{take-put_mid, take-put_mid_below, drop-put_mid}
 use Rattle.std.proofs.lemmas.Bool.{cases_lt}
 use Rattle.std.proofs.lemmas.Bool.Decides.{nat_tests}
-use Rattle.cell.specs.declared.octets.Cell.{Cell}
+use Rattle.std.specs.Simd.{first_chunks}
 use Rattle.spool.specs.declared.record.Mark.{Mark}
 use Rattle.spool.specs.declared.record.Mark.TheVariants.{Taken, Waiting, Unused}
-use Rattle.spool.specs.declared.record.Record.{Record}
-use Rattle.spool.specs.Records.{first_byte, second_byte, mark_of, record_of, parted, Within, record_at, Marked, mark_at, cell_at, with_record}
-
-abbrev pub made : Option Mark → List ℕ → Record
-made mark octets = record { mark = mark; cell = record { octets = octets } }
-
--- a record's parts are those of its bytes
-pub parted_is : (bytes octets : List ℕ) (mark : Option Mark) → mark ≡ mark_of (get_or bytes 0 0) (get_or bytes 1 0) → octets ≡ take (length bytes - 2) (drop 2 bytes) → made mark octets ≡ parted bytes
-parted_is bytes octets mark m o = ap (λ (k : Option Mark). made k octets) m ∙ ap (made (mark_of (get_or bytes 0 0) (get_or bytes 1 0))) (o ∙ take_rest bytes 2)
-
--- the bytes from the record's first on, as a range
-pub ranged : (bytes : List ℕ) (number : ℕ) → take (50 * number + 50 - 50 * number) (drop (50 * number) bytes) ≡ record_at bytes number
-ranged bytes number = let e : 50 * number + 50 - 50 * number ≡ 50 = omega arith in ap (λ (k : ℕ). take k (drop (50 * number) bytes)) e
+use Rattle.spool.specs.Records.{first_byte, second_byte, mark_bytes, mark_of, Within, record_at, Marked, mark_at, with_record}
 
 -- a write to the range of a record
 placed : (bytes new : List ℕ) (number : ℕ) → with_record bytes number new ≡ put_mid (50 * number) 50 bytes new
@@ -37,87 +23,42 @@ length_with bytes new number w n = simp (length-append, length-take, length-drop
 -- the record that was written
 pub record_there : (bytes new : List ℕ) (number : ℕ) → Within (length bytes) number → length new ≡ 50 → record_at (with_record bytes number new) number ≡ new
 record_there bytes new number w n =
-    sym (ranged (with_record bytes number new) number)
-    ∙ ap (λ (bs : List ℕ). take (50 * number + 50 - 50 * number) (drop (50 * number) bs)) (placed bytes new number)
-    ∙ between-put_mid (50 * number) 50 bytes new (50 * number + 50) (omega arith) (omega arith)
+    ap (take 50) (drop_at (take (50 * number) bytes) (new ++ drop (50 * number + 50) bytes) (50 * number) (length-take-le (50 * number) bytes (omega arith)))
+    ∙ take_at new (drop (50 * number + 50) bytes) 50 n
 
 -- and any other one
 pub record_elsewhere : (bytes new : List ℕ) (number other : ℕ) → Within (length bytes) number → length new ≡ 50 → other ≢ number → record_at (with_record bytes number new) other ≡ record_at bytes other
 record_elsewhere bytes new number other w n apart =
     let before : other < number → record_at (with_record bytes number new) other ≡ record_at bytes other = λ l.
-    sym (ranged (with_record bytes number new) other)
-    ∙ between_is (with_record bytes number new) (50 * other) (50 * other + 50)
+    sym (drop-take (50 * other) 50 (with_record bytes number new))
     ∙ ap (drop (50 * other)) (ap (take (50 * other + 50)) (placed bytes new number) ∙ take-put_mid_below (50 * number) 50 bytes new (50 * other + 50) (omega arith) (omega arith))
-    ∙ sym (between_is bytes (50 * other) (50 * other + 50))
-    ∙ ranged bytes other in
+    ∙ drop-take (50 * other) 50 bytes in
     let behind : number ≤ other → record_at (with_record bytes number new) other ≡ record_at bytes other = λ l.
     let m : number < other = omega arith in
     ap (take 50) (ap (drop (50 * other)) (placed bytes new number) ∙ drop-put_mid (50 * number) 50 bytes new (50 * other) (omega arith) (omega arith) n) in
     ⊎_elim before behind (cases_lt other number)
 
--- a second write into the same record
-pub written_twice : (bytes first second : List ℕ) (number : ℕ) → Within (length bytes) number → length first ≡ 50 → with_record (with_record bytes number first) number second ≡ with_record bytes number second
-written_twice bytes first second number w n =
-    let front : take (50 * number) (with_record bytes number first) ≡ take (50 * number) bytes = take_at (take (50 * number) bytes) (first ++ drop (50 * number + 50) bytes) (50 * number) (length-take-le (50 * number) bytes (omega arith)) in
-    let back : drop (50 * number + 50) (with_record bytes number first) ≡ drop (50 * number + 50) bytes = ap (drop (50 * number + 50)) (placed bytes first number) ∙ drop-put_mid (50 * number) 50 bytes first (50 * number + 50) (omega arith) (omega arith) n in
-    ap (λ (bs : List ℕ). bs ++ (second ++ drop (50 * number + 50) (with_record bytes number first))) front
-    ∙ ap (λ (bs : List ℕ). take (50 * number) bytes ++ (second ++ bs)) back
+-- one of the records that bytes hold, of all of them as arrays
+chunk_at : (bytes : List ℕ) (count number : ℕ) (d : List ℕ) → number < count → get_or (first_chunks 50 count bytes) number d ≡ record_at bytes number
+chunk_at bytes zero number d l = absurd (omega arith)
+chunk_at bytes (suc count) zero d l = refl
+chunk_at bytes (suc count) (suc number) d l =
+    let on : 50 + 50 * number ≡ 50 * suc number = omega arith in
+    chunk_at (drop 50 bytes) count number d (omega arith) ∙ ap (take 50) (drop-drop (50 * number) 50 bytes ∙ ap (λ (k : ℕ). drop k bytes) on)
 
--- two bytes are written, one after the other
-two_set : (p q : List ℕ) (x y f g a : ℕ) → length p ≡ a → set (set (p ++ x ∷ y ∷ q) a f) (a + 1) g ≡ p ++ f ∷ g ∷ q
-two_set p q x y f g a e =
-    let one : a + 1 - a ≡ 1 = omega arith in
-    ap (λ (l : List ℕ). set l (a + 1) g) (set_at p x (y ∷ q) f a e) ∙ set-append_right p (f ∷ y ∷ q) a (a + 1) g e (omega arith) ∙ ap (λ (i : ℕ). p ++ set (f ∷ y ∷ q) i g) one
+pub record_in : (bytes : List ℕ) (records : List (List ℕ)) (number : ℕ) (d : List ℕ) → records ≡ first_chunks 50 (length bytes / 50) bytes → number < length bytes / 50 → Within (length bytes) number × (get_or records number d ≡ record_at bytes number)
+record_in bytes records number d e l = (omega arith, ap (λ (rs : List (List ℕ)). get_or rs number d) e ∙ chunk_at bytes (length bytes / 50) number d l)
 
--- what stands behind the first two of 50 bytes
-behind_two : (xs : List ℕ) → 50 ≤ length xs → drop 2 xs ≡ drop 2 (take 50 xs) ++ drop 50 xs
-behind_two xs l =
-    let n = length-take-le 50 xs l in
-    ap (drop 2) (sym (take-append-drop 50 xs)) ∙ drop-append-le 2 (take 50 xs) (drop 50 xs) (omega arith)
-
--- the two bytes of the mark are written, and the record keeps its cell
-pub mark_written : (bytes : List ℕ) (number first second : ℕ) → Within (length bytes) number → set (set bytes (50 * number) first) (50 * number + 1) second ≡ with_record bytes number (first ∷ second ∷ drop 2 (record_at bytes number))
-mark_written bytes number first second w =
+-- a mark and a cell are written, one after the other
+pub record_written : (bytes octets : List ℕ) (number : ℕ) (mark : Mark) → Within (length bytes) number → length octets ≡ 48 → put_mid (50 * number + 2) (50 * number + 50 - (50 * number + 2)) (put_mid (50 * number) (50 * number + 2 - 50 * number) bytes (mark_bytes mark)) octets ≡ with_record bytes number (mark_bytes mark ++ octets)
+record_written bytes octets number mark w n =
     let a : ℕ = 50 * number in
-    let x : ℕ = get_or bytes a 0 in
-    let y : ℕ = get_or bytes (a + 1) 0 in
-    let on : a + 1 + 1 ≡ a + 2 = omega arith in
-    let split : bytes ≡ take a bytes ++ x ∷ y ∷ drop (a + 2) bytes =
-    sym (take-append-drop a bytes)
-    ∙ ap (λ (bs : List ℕ). take a bytes ++ bs) (drop_more bytes a 0 (omega arith)
-    ∙ ap (λ (bs : List ℕ). x ∷ bs) (drop_more bytes (a + 1) 0 (omega arith) ∙ ap (λ (i : ℕ). y ∷ drop i bytes) on)) in
-    let l = length-drop a bytes in
-    let rest : drop (a + 2) bytes ≡ drop 2 (record_at bytes number) ++ drop (a + 50) bytes =
-    sym (drop-drop 2 a bytes) ∙ behind_two (drop a bytes) (omega arith) ∙ ap (λ (bs : List ℕ). drop 2 (record_at bytes number) ++ bs) (drop-drop 50 a bytes) in
-    ap (λ (bs : List ℕ). set (set bs a first) (a + 1) second) split
-    ∙ two_set (take a bytes) (drop (a + 2) bytes) x y first second a (length-take-le a bytes (omega arith))
-    ∙ ap (λ (bs : List ℕ). take a bytes ++ first ∷ second ∷ bs) rest
-
--- the octets of the cell are written, and the record keeps its mark
-pub cell_written : (bytes octets : List ℕ) (number : ℕ) → Within (length bytes) number → length octets ≡ 48 → paste bytes (50 * number + 2) octets 48 ≡ with_record bytes number (take 2 (record_at bytes number) ++ octets)
-cell_written bytes octets number w n =
-    let a : ℕ = 50 * number in
+    let two : a + 2 - a ≡ 2 = omega arith in
+    let rest : a + 50 - (a + 2) ≡ 48 = omega arith in
     let on : a + 2 + 48 ≡ a + 50 = omega arith in
-    let mark : take 2 (drop a bytes) ≡ take 2 (record_at bytes number) = sym (take-take 2 50 (drop a bytes) (lit≤ tt)) in
-    let rest : List ℕ = drop (a + 50) bytes in
-    paste_all bytes (a + 2) octets 48 (sym n)
-    ∙ ap (λ (i : ℕ). take (a + 2) bytes ++ (octets ++ drop i bytes)) on
-    ∙ ap (λ (bs : List ℕ). bs ++ (octets ++ rest)) (take-add a 2 bytes ∙ ap (λ (bs : List ℕ). take a bytes ++ bs) mark)
-    ∙ append_assoc (take a bytes) (take 2 (record_at bytes number)) (octets ++ rest)
-    ∙ ap (λ (bs : List ℕ). take a bytes ++ bs) (sym (append_assoc (take 2 (record_at bytes number)) octets rest))
-
--- a cell is written, and then a mark
-pub all_written : (bytes between : List ℕ) (number : ℕ) (mark : Mark) (cell : Cell) → Within (length bytes) number → length cell.octets ≡ 48 → between ≡ with_record bytes number (take 2 (record_at bytes number) ++ cell.octets) → with_record between number (record_of mark (cell_at between number)) ≡ with_record bytes number (record_of mark cell)
-all_written bytes between number mark cell w n e =
-    let r = length_record bytes number w in
-    let two : length (take 2 (record_at bytes number)) ≡ 2 = length-take-le 2 (record_at bytes number) (omega arith) in
-    let new : List ℕ = take 2 (record_at bytes number) ++ cell.octets in
-    let fifty : length new ≡ 50 = simp length-append (omega arith) in
-    let kept : drop 2 (record_at between number) ≡ cell.octets =
-    ap (λ (bs : List ℕ). drop 2 (record_at bs number)) e ∙ ap (drop 2) (record_there bytes new number w fifty) ∙ drop_at (take 2 (record_at bytes number)) cell.octets 2 two in
-    ap (λ (bs : List ℕ). with_record between number (first_byte mark ∷ second_byte mark ∷ bs)) kept
-    ∙ ap (λ (bs : List ℕ). with_record bs number (record_of mark cell)) e
-    ∙ written_twice bytes new (record_of mark cell) number w fifty
+    let front : take (a + 2) (put_mid a 2 bytes (mark_bytes mark)) ≡ take a bytes ++ mark_bytes mark = take-put_mid a 2 bytes (mark_bytes mark) (a + 2) refl (omega arith) in
+    let back : drop (a + 2) (put_mid a 2 bytes (mark_bytes mark)) ≡ drop (a + 2) bytes = drop-put_mid a 2 bytes (mark_bytes mark) (a + 2) (omega arith) (omega arith) refl in
+    rw (two, rest, front, back, drop-drop 48 (a + 2) bytes, on, append_assoc (take a bytes) (mark_bytes mark) (octets ++ drop (a + 50) bytes))
 
 -- the mark of two bytes, and the two bytes of a mark
 pub mark_read : (mark : Mark) → mark_of (first_byte mark) (second_byte mark) ≡ Some mark

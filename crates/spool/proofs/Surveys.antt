@@ -10,7 +10,7 @@ use Rattle.spool.specs.declared.record.Mark.{Mark}
 use Rattle.spool.specs.declared.record.Mark.TheVariants.{Taken, Waiting, Unused}
 use Rattle.spool.specs.declared.survey.Survey.{Survey}
 use Rattle.spool.specs.Records.{Marked, mark_at, Within}
-use Rattle.spool.specs.Surveys.{survey_of, records_of, mark_in, Ordered, counted, Misplaced, Whole, Broken, Surveyed}
+use Rattle.spool.specs.Surveys.{survey_of, records_of, mark_in, Ordered, counted, Misplaced, Whole, Broken, Surveyed, OnlyAnswer}
 use Rattle.spool.proofs.Records.{marked_from_read, read_from_marked, one_mark}
 
 -- where each mark stands
@@ -45,7 +45,7 @@ grown s more Unused e = record { one_more = grind (arith, nat_tests); before = �
 
 -- one record more is counted
 pub counts_one : (bytes : List ℕ) (s more : Survey) (number : ℕ) (read : Option Mark) → records_of s ≡ number → Ordered bytes s → Within (length bytes) number → read ≡ mark_at bytes number → counted s read ≡ Some more → (records_of more ≡ number + 1) × Ordered bytes more
-counts_one bytes s more number None n o w r e = let z : ◌≡◌ {A = ℕ} 0 1 = cc in absurd (omega arith)
+counts_one bytes s more number None n o w r e = absurd (cc)
 counts_one bytes s more number (Some mark) n o w r e =
     let g = grown s more mark e in
     let one = g.one_more in
@@ -66,7 +66,7 @@ pub counts_none : (s : Survey) (read : Option Mark) → counted s read ≡ None 
 counts_none s None e = tt
 counts_none s (Some Taken) e = grind (arith, nat_tests)
 counts_none s (Some Waiting) e = grind (arith, nat_tests)
-counts_none s (Some Unused) e = let z : ◌≡◌ {A = ℕ} 0 1 = cc in absurd (omega arith)
+counts_none s (Some Unused) e = cc
 
 same_marks : (bytes : List ℕ) (s other : Survey) (k : ℕ) → Ordered bytes s → Ordered bytes other → k < records_of s → k < records_of other → mark_in s k ≡ mark_in other k
 same_marks bytes s other k o p l m = one_mark bytes k (mark_in s k) (mark_in other k) (o k l) (p k m)
@@ -151,10 +151,10 @@ same_place bytes place other b d =
     ⊎_elim (λ e. e) (λ l. absurd (⊎_elim (one_broken bytes place other b d) (one_broken bytes other place d b) l)) (cases_order place other)
 
 -- there is one answer
-pub one_answer : (bytes : List ℕ) (r other : Result Survey Fault) → Surveyed bytes r → Surveyed bytes other → other ≡ r
-one_answer bytes (Ok s) other v w = opens_again bytes s other v w
-one_answer bytes (Err fault) (Ok s) v w = sym (opens_again bytes s (Err fault) w v)
-one_answer bytes (Err fault) (Err another) v w =
+pub only_answer : (bytes : List ℕ) (r : Result Survey Fault) → Surveyed bytes r → OnlyAnswer bytes r
+only_answer bytes (Ok s) v other w = opens_again bytes s other v w
+only_answer bytes (Err fault) v (Ok s) w = sym (opens_again bytes s (Err fault) w v)
+only_answer bytes (Err fault) v (Err another) w =
     ⊎_elim
     (λ p. ⊎_elim (λ q. ap Err (q.1 ∙ sym p.1)) (λ q. absurd (p.0 q.1.long)) w)
     (λ p. ⊎_elim (λ q. absurd (q.0 p.1.long)) (λ q. ap Err (q.2 ∙ ap (raised SpoolRecord part.Spool) (same_place bytes q.0 p.0 q.1 p.1) ∙ sym p.2)) w) v

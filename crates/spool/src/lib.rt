@@ -8,6 +8,6 @@ mod spool;
 mod survey;
 mod surveying;
 
-pub use record::{Mark, Record};
+pub use record::{Mark, NoMark, Record};
 pub use spool::Spool;
 pub use survey::Survey;

@@ -1,7 +1,7 @@
 // Opening a spool.
 ghost use Rattle.std.specs.Prelude.{◌≡◌};
 ghost use Rattle.spool.specs.Spools.{bytes_of, loan_of, Opened, Reopened};
-ghost use Rattle.spool.specs.Surveys.{nothing, Surveyed};
+ghost use Rattle.spool.specs.Surveys.{nothing};
 
 use crate::spool::Spool;
 use crate::survey::Survey;
@@ -16,7 +16,7 @@ impl<'a> Spool<'a> {
     {
         Spool {
             bytes,
-            survey: Survey::NONE,
+            survey: Survey::default(),
         }
     }
 
@@ -26,15 +26,9 @@ impl<'a> Spool<'a> {
         ensures answer { Opened self.old result self.new }
         ensures reopens { Reopened self.old result self.new }
     {
-        let survey = self.surveyed()?;
-        self.survey = survey;
+        // Kept: lent as `&mut`, since of bytes lent as `&` out of a `&mut self` the proof knows no element afterwards.
+        let bytes = &mut *self.bytes;
+        self.survey = Survey::of(bytes)?;
         Ok(())
-    }
-
-    // The records that the bytes hold.
-    fn surveyed(&self) -> Result<Survey, Fault>
-        ensures { Surveyed (bytes_of self.now) result }
-    {
-        Survey::of(self.bytes)
     }
 }

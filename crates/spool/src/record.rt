@@ -1,6 +1,7 @@
 // A record: two bytes of a mark, then the 48 octets of a cell.
-ghost use Rattle.std.specs.Prelude.{◌≡◌, length, MatchOption};
-ghost use Rattle.spool.specs.Records.{first_byte, second_byte, mark_of, parted, record_at, Within};
+ghost use Rattle.std.specs.Prelude.{◌≡◌, length, slice_index, MatchOption};
+ghost use Rattle.std.specs.Result.{result_ok};
+ghost use Rattle.spool.specs.Records.{mark_of, mark_bytes, record_of, parted, record_at, with_record, Within};
 
 use cell::Cell;
 
@@ -22,28 +23,35 @@ pub struct Record {
     pub cell: Cell,
 }
 
-impl Mark {
-    // The mark that has these two bytes.
-    fn read(first: u8, second: u8) -> Option<Mark>
-        ensures { result ≡ mark_of first second }
-    {
-        match (first, second) {
-            (0xA1, 0x02) => Some(Mark::Taken),
-            (0xA1, 0x01) => Some(Mark::Waiting),
-            (0x00, 0x00) => Some(Mark::Unused),
-            _ => None,
+/// Two bytes that are no mark.
+#[derive(Clone, Copy, PartialEq, Eq, Debug)]
+pub struct NoMark;
+
+impl TryFrom<[u8; 2]> for Mark {
+    type Error = NoMark;
+
+    // The mark that has these two bytes. Refused if none has.
+    ghost try_from_gives = { λ bytes mark. result_ok mark ≡ mark_of (slice_index bytes 0) (slice_index bytes 1) };
+
+    fn try_from(bytes: [u8; 2]) -> Result<Mark, NoMark> {
+        match bytes {
+            [0xA1, 0x02] => Ok(Mark::Taken),
+            [0xA1, 0x01] => Ok(Mark::Waiting),
+            [0x00, 0x00] => Ok(Mark::Unused),
+            _ => Err(NoMark),
         }
     }
+}
 
-    /// The two bytes of the mark.
-    pub(crate) fn bytes(self) -> (u8, u8)
-        ensures first { result.0 ≡ first_byte self }
-        ensures second { result.1 ≡ second_byte self }
-    {
-        match self {
-            Mark::Taken => (0xA1, 0x02),
-            Mark::Waiting => (0xA1, 0x01),
-            Mark::Unused => (0x00, 0x00),
+impl From<Mark> for [u8; 2] {
+    // The two bytes of the mark.
+    ghost from_gives = { λ mark bytes. bytes ≡ mark_bytes mark };
+
+    fn from(mark: Mark) -> [u8; 2] {
+        match mark {
+            Mark::Taken => [0xA1, 0x02],
+            Mark::Waiting => [0xA1, 0x01],
+            Mark::Unused => [0x00, 0x00],
         }
     }
 }
@@ -56,28 +64,36 @@ impl Record {
     pub fn at(bytes: &[u8], number: usize) -> Option<Record>
         ensures { MatchOption result (Within (length bytes.now) number → ⊥) (λ found. Within (length bytes.now) number × (found ≡ parted (record_at bytes.now number))) }
     {
-        if number >= bytes.len() / Record::LEN {
-            return None;
-        }
+        let (records, _) = bytes.as_chunks::<{ Record::LEN }>();
+        let record = records.get(number)?;
+        Some(Record::apart(record))
+    }
+
+    // Writes a mark and a cell into the record of this number. All other bytes stay as they are.
+    pub(crate) fn write(bytes: &mut [u8], number: usize, mark: Mark, cell: Cell)
+        requires { Within (length bytes.old) number }
+        ensures { bytes.new ≡ with_record bytes.old number (record_of mark cell) }
+    {
         let start = Record::LEN * number;
-        Some(Record::apart(&bytes[start..start + Record::LEN]))
+        let mark = <[u8; 2]>::from(mark);
+        bytes[start..start + 2].copy_from_slice(&mark);
+        bytes[start + 2..start + Record::LEN].copy_from_slice(&cell.octets);
     }
 
     // Takes the bytes of a record apart.
-    fn apart(bytes: &[u8]) -> Record
+    // Kept: a slice, which may have another length, since a pattern that names the rest of an array gets no proof.
+    pub(crate) fn apart(bytes: &[u8]) -> Record
         requires { length bytes.now ≡ 50 }
         ensures { result ≡ parted bytes.now }
     {
+        let [first, second, rest @ ..] = bytes else {
+            unreachable()
+        };
         let mut octets = [0; 48];
-        match bytes {
-            [first, second, rest @ ..] => {
-                octets.copy_from_slice(rest);
-                Record {
-                    mark: Mark::read(*first, *second),
-                    cell: Cell { octets },
-                }
-            }
-            _ => unreachable(),
+        octets.copy_from_slice(rest);
+        Record {
+            mark: Mark::try_from([*first, *second]).ok(),
+            cell: Cell { octets },
         }
     }
 }

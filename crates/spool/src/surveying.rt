@@ -7,13 +7,6 @@ use crate::survey::Survey;
 use cell::{Fault, Part, Refusal};
 
 impl Survey {
-    /// No records.
-    pub(crate) const NONE: Survey = Survey {
-        taken: 0,
-        waiting: 0,
-        unused: 0,
-    };
-
     /// The records of a spool with these bytes. Refused if no spool has this length; then, at the first record that has
     /// another mark or stands out of order.
     pub fn of(bytes: &[u8]) -> Result<Survey, Fault>
@@ -24,20 +17,15 @@ impl Survey {
         if len == 0 || len % Record::LEN != 0 || len > 65_500 {
             return Err(Fault::new(Refusal::SpoolLength, Part::Spool));
         }
-        let mut survey = Survey::NONE;
-        let mut number = 0;
-        while let Some(found) = Record::at(bytes, number) {
-            survey = match survey.with(found.mark) {
-                Some(more) => more,
-                None => {
-                    return Err(Fault {
-                        refusal: Refusal::SpoolRecord,
-                        part: Part::Spool,
-                        place: number,
-                    });
-                }
-            };
-            number += 1;
+        let mut survey = Survey::default();
+        let (records, _) = bytes.as_chunks::<{ Record::LEN }>();
+        for (number, record) in records.iter().enumerate() {
+            let mark = Record::apart(record).mark;
+            survey = survey.with(mark).ok_or(Fault {
+                refusal: Refusal::SpoolRecord,
+                part: Part::Spool,
+                place: number,
+            })?;
         }
         Ok(survey)
     }
@@ -48,13 +36,20 @@ impl Survey {
         requires { records_of self < 2000 }
         ensures { result ≡ counted self mark }
     {
-        let mut more = self;
-        match mark {
-            Some(Mark::Taken) if self.waiting == 0 && self.unused == 0 => more.taken += 1,
-            Some(Mark::Waiting) if self.unused == 0 => more.waiting += 1,
-            Some(Mark::Unused) => more.unused += 1,
-            _ => return None,
+        match mark? {
+            Mark::Taken if self.waiting == 0 && self.unused == 0 => Some(Survey {
+                taken: self.taken + 1,
+                ..self
+            }),
+            Mark::Waiting if self.unused == 0 => Some(Survey {
+                waiting: self.waiting + 1,
+                ..self
+            }),
+            Mark::Unused => Some(Survey {
+                unused: self.unused + 1,
+                ..self
+            }),
+            _ => None,
         }
-        Some(more)
     }
 }
