@@ -1,7 +1,6 @@
 // A ring buffer: first in, first out, over slots of the caller, for entries of every kind that can be copied.
 #![tactic(auto)]
 
-mod calls;
 mod ring;
 
 pub use ring::Ring;

@@ -2,11 +2,9 @@
 #![tactic(auto)]
 
 mod carried;
-mod opening;
 mod record;
 mod spool;
 mod survey;
-mod surveying;
 
 pub use record::{Mark, NoMark, Record};
 pub use spool::Spool;

@@ -1,7 +1,9 @@
-// The spool. In a file of its own, since the definitions of the calls speak of it.
-ghost use Rattle.spool.specs.Surveys.{Fit};
+// The spool, and opening one.
+ghost use Rattle.std.specs.Prelude.{◌≡◌};
+ghost use Rattle.spool.specs.Surveys.{Fit, nothing};
 
 use crate::survey::Survey;
+use cell::Fault;
 
 /// Records in bytes of the caller: those taken, then those that wait, then those unused. None are counted before it is open.
 #[derive(Drop)]
@@ -9,4 +11,32 @@ pub struct Spool<'a> {
     pub(crate) bytes: &'a mut [u8],
     pub(crate) survey: Survey,
     ghost fit: { Fit bytes.now survey },
+}
+
+impl<'a> Spool<'a> {
+    ghost use Rattle.spool.specs.Spools.{bytes_of, loan_of, Opened, Reopened};
+
+    /// A spool over these bytes that is not open yet: no cell waits, and there is no room. The bytes stay as they are.
+    pub fn new(bytes: &'a mut [u8]) -> Spool<'a>
+        ensures over { bytes_of result ≡ bytes.old }
+        ensures closed { result.survey ≡ nothing }
+        ensures loan { loan_of result ≡ bytes.entry.ghost_name }
+    {
+        Spool {
+            bytes,
+            survey: Survey::default(),
+        }
+    }
+
+    /// Opens the spool, with the records that its bytes hold. Refused if no spool has this length; then, at the first record
+    /// that has another mark or stands out of order.
+    pub fn open(&mut self) -> Result<(), Fault>
+        ensures answer { Opened self.old result self.new }
+        ensures reopens { Reopened self.old result self.new }
+    {
+        // Kept: lent as `&mut`, since of bytes lent as `&` out of a `&mut self` the proof knows no element afterwards.
+        let bytes = &mut *self.bytes;
+        self.survey = Survey::of(bytes)?;
+        Ok(())
+    }
 }

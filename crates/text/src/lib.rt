@@ -1,9 +1,9 @@
 // Lines of text, made without memory from an allocator.
 #![tactic(auto)]
 
+mod hex;
 mod line;
 mod piece;
-mod pushes;
 
 pub use line::Line;
 pub use piece::Piece;

@@ -1,5 +1,9 @@
-// A line and its room. In a file of its own, since the definitions of the calls speak of it.
-ghost use Rattle.std.specs.Prelude.{◌≤◌};
+// A line, and making one piece by piece.
+ghost use Rattle.std.specs.Prelude.{◌≡◌, ◌≤◌, [], ◌∷◌, length, decimal, All};
+
+use crate::hex::hex_digit;
+use crate::piece::Piece;
+use itoa::Buffer;
 
 /// A line of at most 96 octets. What does not fit is left off.
 // Kept, an array with a length beside it: a line stands in fixed memory, can be copied, and is cut at an octet. An `ArrayVec`
@@ -9,4 +13,90 @@ pub struct Line {
     pub(crate) octets: [u8; 96],
     pub(crate) len: usize,
     ghost fits: { len ≤ 96 },
+}
+
+impl Line {
+    ghost use Rattle.text.specs.Lines.{text_of, kept, Appends, hex_of, text_of_piece, text_of_pieces, FewDigits};
+
+    /// An empty line.
+    pub fn new() -> Line
+        ensures { text_of result ≡ [] }
+    {
+        Line {
+            octets: [0; 96],
+            len: 0,
+        }
+    }
+
+    /// The line that these pieces make.
+    pub fn of(pieces: &[Piece<'_>]) -> Line
+        ensures text { text_of result ≡ kept (text_of_pieces pieces.now) }
+        ensures digits { All FewDigits pieces.now }
+    {
+        let mut line = Line::new();
+        for piece in pieces {
+            line.push(piece);
+        }
+        line
+    }
+
+    /// The octets of the line.
+    pub fn text(&self) -> &[u8]
+        ensures { result.now ≡ text_of self.now }
+    {
+        &self.octets[0..self.len]
+    }
+
+    /// A piece more.
+    pub fn push(&mut self, piece: &Piece<'_>)
+        ensures text { Appends self.old (text_of_piece piece.now) self.new }
+        ensures digits { FewDigits piece.now }
+    {
+        match *piece {
+            Piece::Text(text) => self.push_str(text),
+            Piece::Hex(octet) => self.push_hex(octet),
+            Piece::Decimal(n) => self.push_decimal(n),
+        }
+    }
+
+    /// A text more.
+    pub fn push_str(&mut self, text: &str)
+        ensures { Appends self.old text.now self.new }
+    {
+        self.push_all(text.as_bytes());
+    }
+
+    /// An octet more as two hexadecimal digits, capitals.
+    pub fn push_hex(&mut self, octet: u8)
+        ensures { Appends self.old (hex_of octet) self.new }
+    {
+        self.push_all(&[hex_digit(octet / 16), hex_digit(octet % 16)]);
+    }
+
+    /// A number more, decimal.
+    pub fn push_decimal(&mut self, n: u64)
+        ensures text { Appends self.old (decimal n) self.new }
+        ensures digits { length (decimal n) ≤ 20 }
+    {
+        self.push_str(Buffer::new().format(n));
+    }
+
+    // One octet more.
+    fn push_octet(&mut self, octet: u8)
+        ensures { Appends self.old (octet ∷ []) self.new }
+    {
+        if self.len < 96 {
+            self.octets[self.len] = octet;
+            self.len += 1;
+        }
+    }
+
+    // Some octets more.
+    fn push_all(&mut self, octets: &[u8])
+        ensures { Appends self.old octets.now self.new }
+    {
+        for octet in octets {
+            self.push_octet(*octet);
+        }
+    }
 }

@@ -5,7 +5,7 @@ use Rattle.text.specs.Lines.{text_of, kept}
 use Rattle.text.specs.declared.piece.Piece.TheVariants.{Decimal}
 use Rattle.spool_listing.specs.Text.{refusal_line}
 use Rattle.spool_listing.proofs.Short.{refusal_short}
-use Rattle.spool_listing.proofs.lines.refusal_line.Goals as goal
+use Rattle.spool_listing.proofs.listing.refusal_line.Goals as goal
 
 pub returns : goal.returns
 unfolding refusal_line
