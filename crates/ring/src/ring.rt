@@ -10,9 +10,9 @@ use cell::{Fault, Part, Refusal};
 /// The entries stand in `count` slots from `head` on, round the end; the oldest is in `head`.
 #[derive(Drop)]
 pub struct Ring<'a, T> {
-    pub(crate) slots: &'a mut [T],
-    pub(crate) head: usize,
-    pub(crate) count: usize,
+    slots: &'a mut [T],
+    head: usize,
+    count: usize,
     ghost fits: { (count ≤ length slots.now) × (0 < length slots.now → head < length slots.now) },
 }
 

@@ -10,8 +10,8 @@ use itoa::Buffer;
 // cannot be copied, and an `ArrayString` is cut at a character.
 #[derive(Clone, Copy)]
 pub struct Line {
-    pub(crate) octets: [u8; 96],
-    pub(crate) len: usize,
+    octets: [u8; 96],
+    len: usize,
     ghost fits: { len ≤ 96 },
 }
 
