@@ -3,25 +3,18 @@
 
 use header_listing::Listing;
 use std::io;
-use std::io::{BufWriter, Read, Write};
+use std::io::{BufReader, BufWriter, Read, Write};
 
 // Reads the recording piece by piece, so that its length does not matter.
 fn list(rt: &HostRuntime) -> io::Result<()> {
-    let mut input = rt.stdin();
+    let input = BufReader::new(rt.alloc(), rt.stdin())?;
     let mut output = BufWriter::new(rt.alloc(), rt.stdout())?;
     let mut listing = Listing::new();
-    let mut piece = [0u8; 4096];
-    for _ in 0..u64::MAX {
-        let n = input.read(&mut piece)?;
-        if n == 0 {
-            output.write_all(listing.summary().text())?;
-            return output.flush();
-        }
-        for octet in &piece[0..n] {
-            output.write_all(listing.next(*octet).text())?;
-        }
+    for octet in input.bytes() {
+        output.write_all(listing.next(octet?).text())?;
     }
-    Err(io::Error::other("the recording does not end"))
+    output.write_all(listing.summary().text())?;
+    output.flush()
 }
 
 fn main(rt: HostRuntime) -> io::Result<()> {
