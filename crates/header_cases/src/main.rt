@@ -1,7 +1,7 @@
 // Seals and reads every case of the header code, to be compared with what the reference computes.
 #![tactic(auto)]
 
-use header::{Mode, Reader, seal};
+use header::{Mode, Reader, Reading, seal};
 use std::io;
 
 // Every CSI and count up to a little past the largest.
@@ -10,12 +10,7 @@ fn seal_all(rt: &HostRuntime) -> io::Result<()> {
         for count in 0..10u8 {
             match seal(csi, count) {
                 Ok(header) => println!(rt; "seal {csi} {count} {header:02X}")?,
-                Err(fault) => println!(rt;
-                    "seal {csi} {count} refused {} {} {}",
-                    fault.number(),
-                    fault.part.name(),
-                    fault.place
-                )?,
+                Err(fault) => println!(rt; "seal {csi} {count} refused {fault}")?,
             }
         }
     }
@@ -26,15 +21,9 @@ fn seal_all(rt: &HostRuntime) -> io::Result<()> {
 fn read_all(rt: &HostRuntime, mode: Mode) -> io::Result<()> {
     for octet in 0..=255u8 {
         let mut reader = Reader::in_mode(mode);
-        let reading = reader.read(octet);
-        println!(rt;
-            "read {} {octet:02X} {} {} {} {}",
-            mode.name(),
-            reading.csi,
-            reading.count,
-            reading.valid,
-            reader.mode().name()
-        )?;
+        let Reading { csi, count, valid } = reader.read(octet);
+        let after = reader.mode();
+        println!(rt; "read {mode} {octet:02X} {csi} {count} {valid} {after}")?;
     }
     Ok(())
 }

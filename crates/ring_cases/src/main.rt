@@ -1,28 +1,13 @@
 // Runs every script of pushes and pops on rings of 0 to 4 slots, to be compared with what the reference computes.
 #![tactic(auto)]
 
+ghost use Rattle.std.specs.Prelude.{◌<◌, length};
+
 use cell::Fault;
 use ring::Ring;
 use std::fmt::Display;
 use std::io::{BufWriter, Write};
-use std::{fmt, io};
-
-// A refusal: its number, its part and its place.
-#[derive(Clone, Copy)]
-struct Refused(Fault);
-
-impl fmt::Display for Refused {
-    fn fmt<W: fmt::Write>(&self, f: &mut fmt::Formatter<W>) -> fmt::Result {
-        let fault = self.0;
-        write!(
-            f,
-            "refused {} {} {}",
-            fault.number(),
-            fault.part.name(),
-            fault.place
-        )
-    }
-}
+use std::{fmt, io, iter};
 
 // An entry of another kind than a number.
 #[derive(Clone, Copy)]
@@ -44,26 +29,15 @@ impl fmt::Display for Item {
     }
 }
 
-// The entry that a call answered, or the refusal.
-fn write_answer<T: Copy + Display>(
+// A call, and what it answered or the refusal.
+fn write_answer<C: Display + Drop, T: Display + Drop>(
     out: &mut impl Write,
-    call: &str,
+    call: C,
     answer: Result<T, Fault>,
 ) -> io::Result<()> {
     match answer {
-        Ok(entry) => write!(out, " {call} {entry}"),
-        Err(fault) => write!(out, " {call} {}", Refused(fault)),
-    }
-}
-
-fn push<T: Copy + Display>(
-    out: &mut impl Write,
-    ring: &mut Ring<'_, T>,
-    entry: T,
-) -> io::Result<()> {
-    match ring.push(entry) {
-        Ok(()) => write!(out, " push {entry} ok"),
-        Err(fault) => write!(out, " push {entry} {}", Refused(fault)),
+        Ok(value) => write!(out, " {call} {value}"),
+        Err(fault) => write!(out, " {call} refused {fault}"),
     }
 }
 
@@ -83,15 +57,15 @@ fn run_script<T: Copy + Display>(
 ) -> io::Result<()> {
     let mut ring = Ring::new(slots);
     write_state(out, &ring)?;
-    let mut rest = script;
-    for entry in entries {
+    let halves = iter::successors(Some(script), |rest| Some(*rest / 2));
+    for (entry, rest) in entries.iter().copied().zip(halves) {
         if rest % 2 == 1 {
-            push(out, &mut ring, *entry)?;
+            let pushed = ring.push(entry).map(|()| "ok");
+            write_answer(out, format_args!("push {entry}"), pushed)?;
         } else {
             write_answer(out, "pop", ring.pop())?;
         }
         write_state(out, &ring)?;
-        rest /= 2;
     }
     Ok(())
 }
@@ -112,37 +86,20 @@ fn run_case<T: Copy + Display>(
     writeln!(out, "")
 }
 
-// Every script of seven calls on rings of octets.
-fn run_octets(out: &mut impl Write) -> io::Result<()> {
-    for len in 0..5usize {
-        for script in 0..128u8 {
-            let mut slots = [101u8, 102, 103, 104];
-            write!(out, "octets, ")?;
-            run_case(out, &mut slots[0..len], &[1, 2, 3, 4, 5, 6, 7], script)?;
-        }
-    }
-    Ok(())
-}
-
-// Every script of five calls on rings of items.
-fn run_items(out: &mut impl Write) -> io::Result<()> {
-    let entries = [
-        Item::new(1, true),
-        Item::new(2, false),
-        Item::new(3, true),
-        Item::new(4, true),
-        Item::new(5, false),
-    ];
-    for len in 0..5usize {
-        for script in 0..32u8 {
-            let mut slots = [
-                Item::new(101, false),
-                Item::new(102, false),
-                Item::new(103, false),
-                Item::new(104, false),
-            ];
-            write!(out, "items, ")?;
-            run_case(out, &mut slots[0..len], &entries, script)?;
+// Every script of as many calls as there are entries, on rings of 0 to 4 slots.
+fn run_scripts<T: Copy + Display>(
+    out: &mut impl Write,
+    kind: &str,
+    held: [T; 4],
+    entries: &[T],
+) -> io::Result<()>
+    requires { length entries.now < 8 }
+{
+    for len in 0..=held.len() {
+        for script in 0..1u8 << entries.len() {
+            let mut slots = held;
+            write!(out, "{kind}, ")?;
+            run_case(out, &mut slots[..len], entries, script)?;
         }
     }
     Ok(())
@@ -150,7 +107,16 @@ fn run_items(out: &mut impl Write) -> io::Result<()> {
 
 fn main(rt: HostRuntime) -> io::Result<()> {
     let mut out = BufWriter::new(rt.alloc(), rt.stdout())?;
-    run_octets(&mut out)?;
-    run_items(&mut out)?;
+    let octets = [1u8, 2, 3, 4, 5, 6, 7];
+    run_scripts(&mut out, "octets", [101, 102, 103, 104], &octets)?;
+    let items = [
+        Item::new(1, true),
+        Item::new(2, false),
+        Item::new(3, true),
+        Item::new(4, true),
+        Item::new(5, false),
+    ];
+    let held = [101, 102, 103, 104].map(|octet| Item::new(octet, false));
+    run_scripts(&mut out, "items", held, &items)?;
     out.flush()
 }
