@@ -47,16 +47,15 @@ fn write_state<T: Copy + Display>(out: &mut impl Write, ring: &Ring<'_, T>) -> i
     write!(out, " len {} free {};", ring.len(), ring.free())
 }
 
-// Runs one script on a new ring: as many calls as there are entries, each a push of its entry or a pop.
+// Runs one script on a ring: as many calls as there are entries, each a push of its entry or a pop.
 // The number of the script tells which, its lowest bit first: 1 is a push.
 fn run_script<T: Copy + Display>(
     out: &mut impl Write,
-    slots: &mut [T],
+    ring: &mut Ring<'_, T>,
     entries: &[T],
     script: u8,
 ) -> io::Result<()> {
-    let mut ring = Ring::new(slots);
-    write_state(out, &ring)?;
+    write_state(out, ring)?;
     let halves = iter::successors(Some(script), |rest| Some(*rest / 2));
     for (entry, rest) in entries.iter().copied().zip(halves) {
         if rest % 2 == 1 {
@@ -65,12 +64,12 @@ fn run_script<T: Copy + Display>(
         } else {
             write_answer(out, "pop", ring.pop())?;
         }
-        write_state(out, &ring)?;
+        write_state(out, ring)?;
     }
     Ok(())
 }
 
-// One line: the script, and the slots after the ring is gone.
+// One line: the script on a new ring, and the slots after the ring is gone.
 fn run_case<T: Copy + Display>(
     out: &mut impl Write,
     slots: &mut [T],
@@ -78,7 +77,7 @@ fn run_case<T: Copy + Display>(
     script: u8,
 ) -> io::Result<()> {
     write!(out, "{} slots:", slots.len())?;
-    run_script(out, slots, entries, script)?;
+    run_script(out, &mut Ring::new(slots), entries, script)?;
     write!(out, " slots")?;
     for slot in slots.iter() {
         write!(out, " {slot}")?;
@@ -96,7 +95,7 @@ fn run_scripts<T: Copy + Display>(
     requires { length entries.now < 8 }
 {
     for len in 0..=held.len() {
-        for script in 0..1u8 << entries.len() {
+        for script in 0..(1u8 << entries.len()) {
             let mut slots = held;
             write!(out, "{kind}, ")?;
             run_case(out, &mut slots[..len], entries, script)?;
