@@ -1,3 +1,4 @@
 pub mod Short
+pub mod Entered
 pub mod Numbers
 pub mod Corrected

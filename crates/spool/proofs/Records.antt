@@ -1,7 +1,9 @@
 -- Laws of records: what a write into one leaves in it and in the others, and what a mark is read as.
-use Rattle.std.proofs.Common.{◌≡◌, ℕ, zero, suc, ◌+◌, ◌-◌, ◌*◌, ◌/◌, ◌<◌, ◌≤◌, ◌≢◌, List, [], ◌∷◌, ◌++◌, length, get_or, take, drop, Some, sym, refl, ap, ◌∙◌, ⊎_elim, arith, length-append, length-drop, length-take}
+use Rattle.std.proofs.Common.{◌≡◌, ℕ, zero, suc, ◌+◌, ◌-◌, ◌*◌, ◌/◌, ◌<◌, ◌≤◌, ◌≢◌, List, [], ◌∷◌, ◌++◌, length, get_or, take, drop, Some, sym, refl, ap, ◌∙◌, ⊎_elim, arith, length-append, length-drop, length-take, take-add, lit≤}
 use borrow.Rule.Slice.PartMut.{put_mid}
-use Rattle.std.proofs.lemmas.List.{append_assoc, drop_at, drop-drop, drop-take, length-take-le, take_at}
+use lib.Seq.{paste}
+use Rattle.std.proofs.lemmas.List.Edits.{paste_all}
+use Rattle.std.proofs.lemmas.List.{append_assoc, drop_at, drop-drop, drop-take, length-take-le, take_at, take-take}
 use Rattle.std.proofs.lemmas.Slice.{take-put_mid, take-put_mid_below, drop-put_mid}
 use Rattle.std.proofs.lemmas.Bool.{cases_lt}
 use Rattle.std.proofs.lemmas.Bool.Decides.{nat_tests}
@@ -48,6 +50,19 @@ chunk_at bytes (suc count) (suc number) d l =
 
 pub record_in : (bytes : List ℕ) (records : List (List ℕ)) (number : ℕ) (d : List ℕ) → records ≡ first_chunks 50 (length bytes / 50) bytes → number < length bytes / 50 → Within (length bytes) number × (get_or records number d ≡ record_at bytes number)
 record_in bytes records number d e l = (omega arith, ap (λ (rs : List (List ℕ)). get_or rs number d) e ∙ chunk_at bytes (length bytes / 50) number d l)
+
+-- the octets of the cell are written, and the record keeps its mark
+pub cell_written : (bytes octets : List ℕ) (number : ℕ) → Within (length bytes) number → length octets ≡ 48 → paste bytes (50 * number + 2) octets 48 ≡ with_record bytes number (take 2 (record_at bytes number) ++ octets)
+cell_written bytes octets number w n =
+    let a : ℕ = 50 * number in
+    let on : a + 2 + 48 ≡ a + 50 = omega arith in
+    let mark : take 2 (drop a bytes) ≡ take 2 (record_at bytes number) = sym (take-take 2 50 (drop a bytes) (lit≤ tt)) in
+    let rest : List ℕ = drop (a + 50) bytes in
+    paste_all bytes (a + 2) octets 48 (sym n)
+    ∙ ap (λ (i : ℕ). take (a + 2) bytes ++ (octets ++ drop i bytes)) on
+    ∙ ap (λ (bs : List ℕ). bs ++ (octets ++ rest)) (take-add a 2 bytes ∙ ap (λ (bs : List ℕ). take a bytes ++ bs) mark)
+    ∙ append_assoc (take a bytes) (take 2 (record_at bytes number)) (octets ++ rest)
+    ∙ ap (λ (bs : List ℕ). take a bytes ++ bs) (sym (append_assoc (take 2 (record_at bytes number)) octets rest))
 
 -- a mark and a cell are written, one after the other
 pub record_written : (bytes octets : List ℕ) (number : ℕ) (mark : Mark) → Within (length bytes) number → length octets ≡ 48 → put_mid (50 * number + 2) (50 * number + 50 - (50 * number + 2)) (put_mid (50 * number) (50 * number + 2 - 50 * number) bytes (mark_bytes mark)) octets ≡ with_record bytes number (mark_bytes mark ++ octets)
