@@ -43,9 +43,7 @@ impl Draft {
     pub fn add(&mut self, number: u16) -> Result<(), Fault>
         ensures { Added self.old number result self.new }
     {
-        let Some(fate) = Fate::numbered(number) else {
-            return Err(Fault::new(Refusal::FateNumber, Part::Plan));
-        };
+        let fate = Fate::try_from(number)?;
         if self.table.fates.len() >= 64 {
             return Err(Fault::new(Refusal::PlanFull, Part::Plan));
         }
@@ -65,9 +63,7 @@ impl Draft {
                 place,
             });
         }
-        let Some(fate) = Fate::numbered(number) else {
-            return Err(Fault::new(Refusal::FateNumber, Part::Plan));
-        };
+        let fate = Fate::try_from(number)?;
         if let Some(written) = self.table.entry(place) {
             *written = fate;
         }
