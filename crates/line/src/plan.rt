@@ -1,10 +1,10 @@
 // A plan that has started. In a file of its own, since the definitions of the calls speak of it.
 use carriage::Fate;
+use std::vec::IntoIter;
 
 /// A plan that has started. It can be stepped through, and not be written any more.
 #[derive(Drop)]
 pub struct Plan {
-    pub(crate) fates: Vec<Fate>,
-    // how many of them have been used up
-    pub(crate) used: usize,
+    // the fates ahead
+    pub(crate) fates: IntoIter<Fate>,
 }

@@ -12,11 +12,6 @@ impl Plan {
         ensures value { result ≡ next_fate (ahead self.old) }
         ensures left { ahead self.new ≡ later_fates (ahead self.old) }
     {
-        if self.used >= self.fates.len() {
-            return Fate::Turn(0);
-        }
-        let fate = self.fates[self.used];
-        self.used += 1;
-        fate
+        self.fates.next().unwrap_or(Fate::Turn(0))
     }
 }

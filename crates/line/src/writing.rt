@@ -77,6 +77,8 @@ impl Draft {
         let Draft {
             table: Table { fates },
         } = self;
-        Plan { fates, used: 0 }
+        Plan {
+            fates: fates.into_iter(),
+        }
     }
 }
