@@ -3,7 +3,7 @@ use Rattle.carriage.specs.declared.fate.Fate.TheVariants.{Turn}
 use Rattle.carriage.specs.Fates.{next_fate}
 use Rattle.line.specs.Plans.{ahead}
 use Rattle.line.proofs.Puts.{put_passed, stored_passed}
-use Rattle.line.proofs.carried.LineCarriage.put.Goals as goal
+use Rattle.line.proofs.line.LineCarriage.put.Goals as goal
 
 pub returns-in-Turn : goal.returns-in-Turn
 returns-in-Turn g c =
