@@ -17,6 +17,7 @@ impl<'c, 'p, C: Carriage> Line<'c, 'p, C> {
     ghost use Rattle.line.specs.Plans.{ahead};
 
     /// A line over this carriage, with this plan. Neither changes, and both loans are kept.
+    #[tactic(auto, using(crate::proofs::Composed::composes))]
     pub fn new(below: &'c mut C, plan: &'p mut Plan) -> Line<'c, 'p, C>
         ensures below { (result.below.now ≡ below.old) × (result.below.ghost_name ≡ below.entry.ghost_name) }
         ensures plan { (result.plan.now ≡ plan.old) × (result.plan.ghost_name ≡ plan.entry.ghost_name) }
@@ -37,6 +38,7 @@ impl<'c, 'p, C: Carriage> Carriage for Line<'c, 'p, C> {
 
     ghost frees = { FreesThrough C.Carriage.frees };
 
+    #[tactic(auto, using(crate::proofs::Puts::put_passed))]
     fn put(&mut self, cell: Cell) -> Result<(), Fault> {
         if self.below.room() == 0 {
             return self.below.put(cell);
