@@ -9,7 +9,6 @@ use Rattle.cell.specs.declared.fault.Refusal.TheVariants.{FateNumber, PlanFull, 
 use Rattle.carriage.specs.Fates.{fate_of}
 use Rattle.carriage.specs.declared.fate.Fate.{Fate}
 use Rattle.carriage.specs.contracts.fate.Fate.{the_row as fate_row}
-use Rattle.line.specs.declared.draft.TheConstants.{MAX_FATES}
 use Rattle.line.specs.declared.draft.Draft.{Draft}
 use Rattle.line.specs.declared.draft.Table.{Table}
 use Rattle.line.specs.contracts.draft.Table.{the_row}
@@ -26,9 +25,9 @@ with_fate table place fate = record { fates = with_item table.fates place fate }
 abbrev pub LendsFate : MutBor Table → ℕ → Option (MutBor Fate) → Fml
 LendsFate table place lent = LendsIf the_row fate_row table lent (with_fate table.now place) table.now
 
--- why a fate is not added: its number is over 256; then, as many are written as a plan can hold
+-- why a fate is not added: its number is over 256; then, 64 are written
 abbrev pub add_fault : List Fate → ℕ → Option Fault
-add_fault fates number = cond (nat_lt 256 number) (Some (raised FateNumber Plan 0)) (cond (nat_le MAX_FATES (length fates)) (Some (raised PlanFull Plan 0)) None)
+add_fault fates number = cond (nat_lt 256 number) (Some (raised FateNumber Plan 0)) (cond (nat_le 64 (length fates)) (Some (raised PlanFull Plan 0)) None)
 
 -- why a fate is not amended: none is written at the place; then, the new number is over 256
 abbrev pub amend_fault : List Fate → ℕ → ℕ → Option Fault
