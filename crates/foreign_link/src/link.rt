@@ -8,8 +8,8 @@ use cell::{Cell, Fault, Part, Refusal};
 #[derive(Clone, Copy)]
 pub struct Link {
     // how many cells are still to be lost
-    pub(crate) unlocked: usize,
-    pub(crate) held: Option<Cell>,
+    unlocked: usize,
+    held: Option<Cell>,
 }
 
 impl Link {

@@ -12,8 +12,8 @@ pub const MAX_FATES: usize = 64;
 
 /// The fates that are written, in the order in which cells are to meet them.
 #[derive(Drop)]
-pub(crate) struct Table {
-    pub fates: Vec<Fate>,
+struct Table {
+    fates: Vec<Fate>,
 }
 
 impl Table {
@@ -33,7 +33,7 @@ impl Table {
 /// A plan that is being written: up to `MAX_FATES` fates, for which there is memory from the start.
 #[derive(Drop)]
 pub struct Draft {
-    pub(crate) table: Table,
+    table: Table,
     ghost few: { (vec_len table.fates ≤ MAX_FATES) × (MAX_FATES ≤ vec_capacity table.fates) },
 }
 
@@ -90,11 +90,8 @@ impl Draft {
     pub fn start(self) -> Plan
         ensures { ahead result ≡ written self }
     {
-        let Draft {
-            table: Table { fates },
-        } = self;
         Plan {
-            fates: fates.into_iter(),
+            fates: self.table.fates.into_iter(),
         }
     }
 }

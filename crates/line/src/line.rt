@@ -8,8 +8,8 @@ use cell::{Cell, Fault};
 /// A plan over a carriage: a cell that is put meets the plan's next fate, and then goes into the carriage below.
 #[derive(Drop)]
 pub struct Line<'c, 'p, C> {
-    pub(crate) below: &'c mut C,
-    pub(crate) plan: &'p mut Plan,
+    below: &'c mut C,
+    plan: &'p mut Plan,
 }
 
 impl<'c, 'p, C: Carriage> Line<'c, 'p, C> {
