@@ -1,5 +1,5 @@
 -- What a draft holds, and what writing into it answers and leaves.
-use Rattle.std.specs.Prelude.{◌≡◌, ℕ, cond, List, [], ◌∷◌, ◌++◌, length, Some, None, Ok, Err, vec_items, Option, Result, nat_le, nat_lt, slice_set}
+use Rattle.std.specs.Prelude.{◌≡◌, ℕ, if◌then◌else◌, List, [], ◌∷◌, ◌++◌, length, Some, None, Ok, Err, vec_items, Option, Result, nat_le, nat_lt, slice_set}
 use Rattle.std.specs.Borrow.{LendsIf, MutBor, Fml}
 use Rattle.std.specs.Vec.{with_item}
 use Rattle.cell.specs.Faults.{raised}
@@ -27,11 +27,17 @@ LendsFate table place lent = LendsIf the_row fate_row table lent (with_fate tabl
 
 -- why a fate is not added: its number is over 256; then, 64 are written
 abbrev pub add_fault : List Fate → ℕ → Option Fault
-add_fault fates number = cond (nat_lt 256 number) (Some (raised FateNumber Plan 0)) (cond (nat_le 64 (length fates)) (Some (raised PlanFull Plan 0)) None)
+add_fault fates number =
+    if nat_lt 256 number then Some (raised FateNumber Plan 0)
+    else if nat_le 64 (length fates) then Some (raised PlanFull Plan 0)
+    else None
 
 -- why a fate is not amended: none is written at the place; then, the new number is over 256
 abbrev pub amend_fault : List Fate → ℕ → ℕ → Option Fault
-amend_fault fates place number = cond (nat_le (length fates) place) (Some (raised NoFate Plan place)) (cond (nat_lt 256 number) (Some (raised FateNumber Plan 0)) None)
+amend_fault fates place number =
+    if nat_le (length fates) place then Some (raised NoFate Plan place)
+    else if nat_lt 256 number then Some (raised FateNumber Plan 0)
+    else None
 
 -- one fate more is written, after all the others
 abbrev pub Added : Draft → ℕ → Result (Unit {0}) Fault → Draft → Type 0
