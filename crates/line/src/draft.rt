@@ -75,13 +75,11 @@ impl Draft {
     pub fn amend(&mut self, place: usize, number: u16) -> Result<(), Fault>
         ensures { Amended self.old place number result self.new }
     {
-        let Some(written) = self.table.entry(place) else {
-            return Err(Fault {
-                refusal: Refusal::NoFate,
-                part: Part::Plan,
-                place,
-            });
-        };
+        let written = self.table.entry(place).ok_or(Fault {
+            refusal: Refusal::NoFate,
+            part: Part::Plan,
+            place,
+        })?;
         *written = Fate::try_from(number)?;
         Ok(())
     }
