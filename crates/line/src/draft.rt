@@ -11,6 +11,7 @@ use std::alloc::AllocError;
 pub const MAX_FATES: usize = 64;
 
 /// The fates that are written, in the order in which cells are to meet them.
+// Kept: a struct of its own. In `Draft`, which has a fact to keep, the clause `lends` of `entry` stayed open.
 #[derive(Drop)]
 struct Table {
     fates: Vec<Fate>,
