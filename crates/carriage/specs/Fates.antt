@@ -1,5 +1,5 @@
 -- Fates: what becomes of a cell on its way.
-use Rattle.std.specs.Prelude.{◌≡◌, ℕ, cond, List, [], ◌∷◌, ◌++◌, drop, Some, None, Ok, Err, Option, Result, ◌==◌, nat_lt}
+use Rattle.std.specs.Prelude.{◌≡◌, ℕ, if◌then◌else◌, List, [], ◌∷◌, ◌++◌, drop, Some, None, Ok, Err, Option, Result, ◌==◌, nat_lt}
 use Rattle.cell.specs.Cells.{turned}
 use Rattle.cell.specs.Faults.{raised}
 use Rattle.cell.specs.declared.fault.Fault.{Fault}
@@ -16,7 +16,10 @@ number_of Lost = 256
 
 -- the fate of a number, which is at most 256
 abbrev pub fate_of : ℕ → Option Fate
-fate_of number = cond (nat_lt number 256) (Some (Turn number)) (cond (number == 256) (Some Lost) None)
+fate_of number =
+    if nat_lt number 256 then Some (Turn number)
+    else if number == 256 then Some Lost
+    else None
 
 -- The fate of a number. Refused exactly if none has it.
 abbrev pub FateNumbered : ℕ → Result Fate Fault → Type 0

@@ -33,6 +33,7 @@ impl TryFrom<u16> for Fate {
 
     fn try_from(number: u16) -> Result<Fate, Fault> {
         match number {
+            // Kept: the arm takes only numbers that fit, where `u8::try_from` would need one more arm for its error.
             0..=255 => Ok(Fate::Turn(number as u8)),
             256 => Ok(Fate::Lost),
             _ => Err(Fault::new(Refusal::FateNumber, Part::Plan)),

@@ -2,6 +2,7 @@
 ghost use Rattle.carriage.specs.Laws.{PutsArrive};
 
 /// Cells that are put one after the other: what arrives of them, and which fates are left.
+#[tactic(auto, using(crate::proofs::Arrivals::puts_arrive))]
 pub fn puts_arrive()
     ensures { PutsArrive }
 {}

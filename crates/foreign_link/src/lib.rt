@@ -1,7 +1,6 @@
 // An example of a carriage from elsewhere: none of the product's own, and proved against the same trait.
 #![tactic(auto)]
 
-mod carried;
 mod link;
 
 pub use link::Link;

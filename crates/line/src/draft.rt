@@ -1,17 +1,96 @@
-// A plan that is being written. In a file of its own, since the definitions of the calls speak of it.
-ghost use Rattle.std.specs.Prelude.{◌≤◌, vec_len, vec_capacity};
+// A plan that is being written, and how it starts.
+ghost use Rattle.std.specs.Prelude.{◌≡◌, ◌<◌, ◌≤◌, [], vec_len, vec_capacity, MatchResult};
+ghost use Rattle.line.specs.declared.draft.TheConstants.{MAX_FATES};
 
+use crate::plan::Plan;
 use carriage::Fate;
+use cell::{Fault, Part, Refusal};
+use std::alloc::AllocError;
+
+/// How many fates a plan can hold.
+pub const MAX_FATES: usize = 64;
 
 /// The fates that are written, in the order in which cells are to meet them.
+// Kept: a struct of its own. In `Draft`, which has a fact to keep, the clause `lends` of `entry` stayed open.
 #[derive(Drop)]
-pub(crate) struct Table {
-    pub fates: Vec<Fate>,
+struct Table {
+    fates: Vec<Fate>,
 }
 
-/// A plan that is being written: up to 64 fates, for which there is memory from the start.
+impl Table {
+    ghost use Rattle.std.specs.Borrow.{sem};
+    ghost use Rattle.std.specs.List.{IsItemAtMut};
+    ghost use Rattle.line.specs.Drafts.{LendsFate};
+
+    // The fate that is written at a place, lent to be changed.
+    fn entry(&mut self, place: usize) -> Option<&mut Fate>
+        ensures* lends { sem 𝓛 (LendsFate self.entry place result) }
+        ensures found { IsItemAtMut self.old.fates.items place result }
+    {
+        self.fates.get_mut(place)
+    }
+}
+
+/// A plan that is being written: up to `MAX_FATES` fates, for which there is memory from the start.
 #[derive(Drop)]
 pub struct Draft {
-    pub(crate) table: Table,
-    ghost few: { (vec_len table.fates ≤ 64) × (64 ≤ vec_capacity table.fates) },
+    table: Table,
+    ghost few: { (vec_len table.fates ≤ MAX_FATES) × (MAX_FATES ≤ vec_capacity table.fates) },
+}
+
+impl Draft {
+    ghost use Rattle.line.specs.Drafts.{written, Added, Amended};
+    ghost use Rattle.line.specs.Plans.{ahead};
+
+    /// A draft in which nothing is written, in memory for at least `MAX_FATES` fates. With less memory there is none.
+    pub fn new(memory: Vec<Fate>) -> Result<Draft, AllocError>
+        ensures { MatchResult result
+            (λ draft. (MAX_FATES ≤ vec_capacity memory) × (written draft ≡ []))
+            (λ _. vec_capacity memory < MAX_FATES) }
+    {
+        let mut fates = memory;
+        if fates.capacity() < MAX_FATES {
+            return Err(AllocError);
+        }
+        fates.clear();
+        Ok(Draft {
+            table: Table { fates },
+        })
+    }
+
+    /// Writes one fate more, by its number.
+    /// Refused if no fate has this number, then if the plan has all the fates that it can hold.
+    pub fn add(&mut self, number: u16) -> Result<(), Fault>
+        ensures { Added self.old number result self.new }
+    {
+        let fate = Fate::try_from(number)?;
+        if self.table.fates.len() >= MAX_FATES {
+            return Err(Fault::new(Refusal::PlanFull, Part::Plan));
+        }
+        self.table.fates.push_reserved(fate);
+        Ok(())
+    }
+
+    /// Changes a fate that is written, by its place and its new number.
+    /// Refused if no fate is written there, then if no fate has this number.
+    pub fn amend(&mut self, place: usize, number: u16) -> Result<(), Fault>
+        ensures { Amended self.old place number result self.new }
+    {
+        let written = self.table.entry(place).ok_or(Fault {
+            refusal: Refusal::NoFate,
+            part: Part::Plan,
+            place,
+        })?;
+        *written = Fate::try_from(number)?;
+        Ok(())
+    }
+
+    /// Starts the plan. The draft is gone, and nothing can write into the plan any more.
+    pub fn start(self) -> Plan
+        ensures { ahead result ≡ written self }
+    {
+        Plan {
+            fates: self.table.fates.into_iter(),
+        }
+    }
 }
