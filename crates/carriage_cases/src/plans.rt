@@ -1,12 +1,12 @@
 // Drafts and plans for the cases.
 use carriage::Fate;
-use line::{Draft, Plan};
+use line::{Draft, MAX_FATES, Plan};
 use std::alloc::Global;
 use std::io;
 
 /// A draft with these fates.
 pub(crate) fn draft_of(heap: Global, numbers: &[u16]) -> io::Result<Draft> {
-    let memory: Vec<Fate> = Vec::with_capacity(heap, 64)?;
+    let memory: Vec<Fate> = Vec::with_capacity(heap, MAX_FATES)?;
     let mut draft = Draft::new(memory)?;
     for number in numbers {
         draft
