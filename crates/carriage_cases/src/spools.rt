@@ -26,22 +26,8 @@ fn letter(mark: Option<Mark>) -> char {
     }
 }
 
-fn word(mark: Option<Mark>) -> &'static str {
-    match mark {
-        Some(Mark::Taken) => "taken",
-        Some(Mark::Waiting) => "waiting",
-        Some(Mark::Unused) => "unused",
-        None => "unknown",
-    }
-}
-
 fn bytes_of(mark: Option<Mark>) -> [u8; 2] {
-    match mark {
-        Some(Mark::Taken) => [0xA1, 0x02],
-        Some(Mark::Waiting) => [0xA1, 0x01],
-        Some(Mark::Unused) => [0x00, 0x00],
-        None => [0xA1, 0x00],
-    }
+    mark.map_or([0xA1, 0x00], <[u8; 2]>::from)
 }
 
 /// The bytes of a spool whose records have these marks. Unused records hold octets too.
@@ -142,7 +128,8 @@ impl<W: Write> Cases<W> {
         for number in 0..4 {
             match Record::at(bytes, number) {
                 Some(Record { mark, cell }) => {
-                    write!(self.out, " {} {}", word(mark), Shown(cell))?
+                    let name = mark.map_or("unknown", Mark::name);
+                    write!(self.out, " {name} {}", Shown(cell))?
                 }
                 None => write!(self.out, " none")?,
             }

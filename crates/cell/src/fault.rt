@@ -67,6 +67,7 @@ pub enum Part {
 
 impl Part {
     /// The part's name, for people.
+    // Kept beside `Display`, since this call cannot fail, and a `fmt` may.
     pub fn name(self) -> &'static str
         ensures { result.now ≡ name_of self }
     {

@@ -16,24 +16,27 @@ pub fn examples_hold()
 mod tests {
     use carriage::Carriage;
     use cell::{Cell, Fault, Part, Refusal};
-    use header::{Mode, Reader, seal};
+    use header::{Mode, Reader, Reading, seal};
     use ring::Ring;
     use spool::Spool;
     use std::test::Fail;
 
-    // CSI, count and validity of an octet read in a mode.
-    fn found(mode: Mode, octet: u8) -> (u8, u8, bool) {
-        let reading = Reader::in_mode(mode).read(octet);
-        (reading.csi, reading.count, reading.valid)
+    // What an octet is read as in a mode.
+    fn found(mode: Mode, octet: u8) -> Reading {
+        Reader::in_mode(mode).read(octet)
+    }
+
+    fn told(csi: u8, count: u8, valid: bool) -> Reading {
+        Reading { csi, count, valid }
     }
 
     #[test]
     fn headers_read(rt: HostRuntime) {
-        assert_eq!(rt; found(Mode::Correction, 0x07), (0, 1, true));
-        assert_eq!(rt; found(Mode::Detection, 0x07), (0, 0, false));
-        assert_eq!(rt; found(Mode::Correction, 0x0f), (0, 0, false));
-        assert_eq!(rt; found(Mode::Detection, 0x0f), (0, 0, false));
-        assert_eq!(rt; found(Mode::Correction, 0x01), (0, 0, true));
+        assert_eq!(rt; found(Mode::Correction, 0x07), told(0, 1, true));
+        assert_eq!(rt; found(Mode::Detection, 0x07), told(0, 0, false));
+        assert_eq!(rt; found(Mode::Correction, 0x0f), told(0, 0, false));
+        assert_eq!(rt; found(Mode::Detection, 0x0f), told(0, 0, false));
+        assert_eq!(rt; found(Mode::Correction, 0x01), told(0, 0, true));
     }
 
     #[test]

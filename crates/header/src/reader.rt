@@ -19,6 +19,7 @@ pub enum Mode {
 
 impl Mode {
     /// The mode's name, for people.
+    // Kept beside `Display`, since this call cannot fail, and a `fmt` may.
     pub fn name(self) -> &'static str
         ensures { result.now ≡ mode_name self }
     {

@@ -16,6 +16,7 @@ pub(crate) struct Entry {
 
 impl Entry {
     /// The line, with its line feed.
+    // Kept: no `Display`, since a `fmt` may fail, and a line of the listing cannot.
     pub(crate) fn line(&self) -> Line
         ensures { text_of result ≡ line_of self.now }
     {

@@ -83,6 +83,7 @@ impl Tally {
     }
 
     // The line that tells the numbers, with its line feed.
+    // Kept: no `Display`, since a `fmt` may fail, and a line of the listing cannot.
     fn line(&self) -> Line
         ensures { text_of result ≡ summary_of self.now }
     {

@@ -60,6 +60,7 @@ impl Draft {
 
     /// Writes one fate more, by its number.
     /// Refused if no fate has this number, then if the plan has all the fates that it can hold.
+    // Kept: a number and no `Fate`, since this call is what refuses a number that no fate has.
     pub fn add(&mut self, number: u16) -> Result<(), Fault>
         ensures { Added self.old number result self.new }
     {
@@ -73,6 +74,7 @@ impl Draft {
 
     /// Changes a fate that is written, by its place and its new number.
     /// Refused if no fate is written there, then if no fate has this number.
+    // Kept: a number, as in `add`.
     pub fn amend(&mut self, place: usize, number: u16) -> Result<(), Fault>
         ensures { Amended self.old place number result self.new }
     {

@@ -1,9 +1,15 @@
 -- A record is 50 bytes: two of a mark, then the 48 octets of a cell.
-use Rattle.std.specs.Prelude.{◌≡◌, ℕ, ◌+◌, ◌*◌, ◌≤◌, cond, List, [], ◌∷◌, ◌++◌, take, drop, Some, None, Option, ◌==◌, slice_index}
+use Rattle.std.specs.Prelude.{◌≡◌, ℕ, ◌+◌, ◌*◌, ◌≤◌, cond, List, [], ◌∷◌, ◌++◌, take, drop, Some, None, Option, ◌==◌, slice_index, codes}
 use Rattle.cell.specs.declared.octets.Cell.{Cell}
 use Rattle.spool.specs.declared.record.Mark.{Mark}
 use Rattle.spool.specs.declared.record.Mark.TheVariants.{Taken, Waiting, Unused}
 use Rattle.spool.specs.declared.record.Record.{Record}
+
+-- the names of the marks
+abbrev pub mark_name : Mark → List ℕ
+mark_name Taken = codes "taken"
+mark_name Waiting = codes "waiting"
+mark_name Unused = codes "unused"
 
 -- the two bytes of each mark
 abbrev pub first_byte : Mark → ℕ

@@ -1,9 +1,11 @@
 // A record: two bytes of a mark, then the 48 octets of a cell.
-ghost use Rattle.std.specs.Prelude.{◌≡◌, length, slice_index, MatchOption};
+ghost use Rattle.std.specs.Prelude.{◌≡◌, length, slice_index, codes, Some, MatchOption};
 ghost use Rattle.std.specs.Result.{result_ok};
-ghost use Rattle.spool.specs.Records.{mark_of, mark_bytes, record_of, parted, record_at, with_record, Within};
+ghost use Rattle.spool.specs.Records.{mark_name, mark_of, mark_bytes, record_of, parted, record_at, with_record, Within};
 
 use cell::Cell;
+use std::error::Error;
+use std::fmt;
 
 /// What the mark of a record tells.
 #[derive(Clone, Copy, PartialEq, Eq, Debug)]
@@ -16,6 +18,28 @@ pub enum Mark {
     Unused,
 }
 
+impl Mark {
+    /// The mark's name, for people.
+    // Kept beside `Display`, since this call cannot fail, and a `fmt` may.
+    pub fn name(self) -> &'static str
+        ensures { result.now ≡ mark_name self }
+    {
+        match self {
+            Mark::Taken => "taken",
+            Mark::Waiting => "waiting",
+            Mark::Unused => "unused",
+        }
+    }
+}
+
+impl fmt::Display for Mark {
+    ghost output = { λ mark. Some (mark_name mark) };
+
+    fn fmt<W: fmt::Write>(&self, f: &mut fmt::Formatter<W>) -> fmt::Result {
+        f.write_str(self.name())
+    }
+}
+
 /// One record, taken apart. A record with another mark has none.
 #[derive(Clone, Copy)]
 pub struct Record {
@@ -26,6 +50,16 @@ pub struct Record {
 /// Two bytes that are no mark.
 #[derive(Clone, Copy, PartialEq, Eq, Debug)]
 pub struct NoMark;
+
+impl fmt::Display for NoMark {
+    ghost output = { λ none. Some (codes "no mark") };
+
+    fn fmt<W: fmt::Write>(&self, f: &mut fmt::Formatter<W>) -> fmt::Result {
+        f.write_str("no mark")
+    }
+}
+
+impl Error for NoMark {}
 
 impl TryFrom<[u8; 2]> for Mark {
     type Error = NoMark;

@@ -7,10 +7,11 @@ use Rattle.cell.specs.declared.octets.Cell.{Cell}
 use Rattle.spool.specs.declared.record.Mark.{Mark}
 use Rattle.spool.specs.declared.record.Mark.TheVariants.{Taken, Waiting, Unused}
 use Rattle.spool.specs.declared.survey.Survey.{Survey}
+use Rattle.spool.specs.Records.{mark_name}
 use Rattle.spool.specs.Surveys.{records_of}
-use Rattle.spool_listing.specs.Text.{mark_word, header_word, record_line, summary_line, refusal_line}
+use Rattle.spool_listing.specs.Text.{header_word, record_line, summary_line, refusal_line}
 
-mark_short : (mark : Mark) → length (mark_word mark) ≤ 7
+mark_short : (mark : Mark) → length (mark_name mark) ≤ 7
 mark_short Taken = omega arith
 mark_short Waiting = omega arith
 mark_short Unused = omega arith

@@ -7,13 +7,9 @@ use Rattle.cell.specs.declared.fault.Fault.{Fault}
 use Rattle.cell.specs.declared.octets.Cell.{Cell}
 use Rattle.spool.specs.declared.record.Mark.{Mark}
 use Rattle.spool.specs.declared.record.Mark.TheVariants.{Taken, Waiting, Unused}
+use Rattle.spool.specs.Records.{mark_name}
 use Rattle.spool.specs.declared.survey.Survey.{Survey}
 use Rattle.text.specs.Lines.{hex_of}
-
-abbrev pub mark_word : Mark → List ℕ
-mark_word Taken = codes "taken"
-mark_word Waiting = codes "waiting"
-mark_word Unused = codes "unused"
 
 -- the header octet of the record's cell, if it has one
 abbrev pub header_word : Mark → Cell → List ℕ
@@ -23,7 +19,7 @@ header_word Unused cell = codes "--"
 
 -- a line: the number, the mark and the header octet, single spaces between
 unfoldable pub record_line : ℕ → Mark → Cell → List ℕ
-record_line number mark cell = concat (decimal number ∷ codes " " ∷ mark_word mark ∷ codes " " ∷ header_word mark cell ∷ codes "\n" ∷ [])
+record_line number mark cell = concat (decimal number ∷ codes " " ∷ mark_name mark ∷ codes " " ∷ header_word mark cell ∷ codes "\n" ∷ [])
 
 -- the last line: how many records there are, and how many of each kind
 unfoldable pub summary_line : ℕ → Survey → List ℕ

@@ -4,7 +4,7 @@ ghost use Rattle.spool.specs.Records.{Within};
 ghost use Rattle.spool.specs.Surveys.{mark_in, records_of};
 ghost use Rattle.text.specs.Lines.{text_of, kept, text_of_piece};
 ghost use Rattle.spool_listing.specs.Listings.{listed_bytes, IsListed, Listed, line_at};
-ghost use Rattle.spool_listing.specs.Text.{mark_word, header_word, summary_line, refusal_line};
+ghost use Rattle.spool_listing.specs.Text.{header_word, summary_line, refusal_line};
 
 use cell::{Cell, Fault};
 use spool::{Mark, Record, Survey};
@@ -35,7 +35,7 @@ impl<'a> Listing<'a> {
         Some(Line::of(&[
             Piece::Decimal(number as u64),
             Piece::Text(" "),
-            Piece::Text(mark_word(mark)),
+            Piece::Text(mark.name()),
             Piece::Text(" "),
             header_piece(mark, found.cell),
             Piece::Text("\n"),
@@ -76,16 +76,6 @@ impl<'a> Listing<'a> {
         } else {
             Mark::Unused
         }
-    }
-}
-
-fn mark_word(mark: Mark) -> &'static str
-    ensures { result.now ≡ mark_word mark }
-{
-    match mark {
-        Mark::Taken => "taken",
-        Mark::Waiting => "waiting",
-        Mark::Unused => "unused",
     }
 }
 
