@@ -2,4 +2,3 @@ pub mod Headers
 pub mod HeaderListings
 pub mod Lines
 pub mod SpoolListings
-pub mod Digits
