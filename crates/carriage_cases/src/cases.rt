@@ -46,6 +46,7 @@ impl<W: Write> Cases<W> {
 
     /// Runs a script of so many calls, each a put or a drop.
     /// The number of the script tells which, its lowest bit first: 1 is a put.
+    // Kept: a test of a bit and no list of closures, since the number is the whole case.
     pub fn run_script<C: Carriage>(
         &mut self,
         carriage: &mut C,

@@ -61,6 +61,7 @@ impl<W: Write> Cases<W> {
     }
 
     // One line of text: a line over a line over a queue of one slot.
+    // Kept: two functions, this one and `run_spool`. What they have in common is `pass_lines`; the rest is the carriage.
     fn run_queue(&mut self, pair: Pair) -> io::Result<()> {
         self.write_pair(pair)?;
         write!(self.out, "queue:")?;
@@ -107,6 +108,7 @@ impl<W: Write> Cases<W> {
     }
 
     // The name of a line: its fates.
+    // Kept: like `write_name` of the spools, over another kind of words.
     fn write_line(&mut self, fates: &[u16]) -> io::Result<()> {
         write!(self.out, "line")?;
         for number in fates {

@@ -17,6 +17,8 @@ const MARKS: [Option<Mark>; 4] = [
 // Lengths about those of a short and of the longest spool.
 const LENGTHS: [usize; 8] = [1, 49, 51, 99, 100, 65_500, 65_501, 65_550];
 
+// The letter of a mark in the name of a case.
+// Kept: no `Display`, since a mark's own is its name.
 fn letter(mark: Option<Mark>) -> char {
     match mark {
         Some(Mark::Taken) => 't',
@@ -26,6 +28,7 @@ fn letter(mark: Option<Mark>) -> char {
     }
 }
 
+// The two bytes of a mark, or of another one.
 fn bytes_of(mark: Option<Mark>) -> [u8; 2] {
     mark.map_or([0xA1, 0x00], <[u8; 2]>::from)
 }

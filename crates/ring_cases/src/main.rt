@@ -1,4 +1,6 @@
 // Runs every script of pushes and pops on rings of 0 to 4 slots, to be compared with what the reference computes.
+// Kept: how an answer, a script and a case are written is much the same in `carriage_cases`. A library for these few lines would
+// be no plainer.
 #![tactic(auto)]
 
 ghost use Rattle.std.specs.Prelude.{◌<◌, length};
@@ -49,6 +51,7 @@ fn write_state<T: Copy + Display>(out: &mut impl Write, ring: &Ring<'_, T>) -> i
 
 // Runs one script on a ring: as many calls as there are entries, each a push of its entry or a pop.
 // The number of the script tells which, its lowest bit first: 1 is a push.
+// Kept: a test of a bit and no list of closures, since the number is the whole case.
 fn run_script<T: Copy + Display>(
     out: &mut impl Write,
     ring: &mut Ring<'_, T>,

@@ -17,6 +17,7 @@ pub struct Listing<'a> {
     survey: Survey,
 }
 
+// Kept: no `Display` for the lines, since a `fmt` may fail, and a line of the listing cannot.
 impl<'a> Listing<'a> {
     /// The listing of a spool with these bytes. Refused as the opening of the spool would be.
     pub fn new(bytes: &'a [u8]) -> Result<Listing<'a>, Fault>
