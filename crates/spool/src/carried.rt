@@ -1,5 +1,7 @@
 // The spool as a carriage. It has no fates, and its room is its unused records.
+ghost use Rattle.std.specs.Prelude.{◌≡◌, length};
 ghost use Rattle.cell.specs.declared.fault.Part.TheVariants.{Spool as InSpool};
+ghost use Rattle.spool.specs.Records.{record_of, with_record, Within};
 ghost use Rattle.spool.specs.Spools.{spool_meaning, Stored, Freed};
 
 use crate::record::{Mark, Record};
@@ -21,7 +23,7 @@ impl<'a> Carriage for Spool<'a> {
             return Err(Fault::new(Refusal::Full, Part::Spool));
         }
         let number = self.survey.taken + self.survey.waiting;
-        Record::write(self.bytes, number, Mark::Waiting, cell);
+        write_record(self.bytes, number, Mark::Waiting, cell);
         self.survey.unused -= 1;
         self.survey.waiting += 1;
         Ok(())
@@ -36,7 +38,7 @@ impl<'a> Carriage for Spool<'a> {
 
     fn drop_first(&mut self) -> Result<(), Fault> {
         let cell = self.look()?;
-        Record::write(self.bytes, self.survey.taken, Mark::Taken, cell);
+        write_record(self.bytes, self.survey.taken, Mark::Taken, cell);
         self.survey.waiting -= 1;
         self.survey.taken += 1;
         Ok(())
@@ -49,4 +51,15 @@ impl<'a> Carriage for Spool<'a> {
     fn waiting(&self) -> usize {
         self.survey.waiting
     }
+}
+
+// Writes a mark and a cell into the record of this number. All other bytes stay as they are.
+fn write_record(bytes: &mut [u8], number: usize, mark: Mark, cell: Cell)
+    requires { Within (length bytes.old) number }
+    ensures { bytes.new ≡ with_record bytes.old number (record_of mark cell) }
+{
+    let start = Record::LEN * number;
+    let mark = <[u8; 2]>::from(mark);
+    bytes[start..start + 2].copy_from_slice(&mark);
+    bytes[start + 2..start + Record::LEN].copy_from_slice(&cell.octets);
 }

@@ -1,7 +1,7 @@
 // A record: two bytes of a mark, then the 48 octets of a cell.
 ghost use Rattle.std.specs.Prelude.{◌≡◌, length, slice_index, codes, Some, MatchOption};
 ghost use Rattle.std.specs.Result.{result_ok};
-ghost use Rattle.spool.specs.Records.{mark_name, mark_of, mark_bytes, record_of, parted, record_at, with_record, Within};
+ghost use Rattle.spool.specs.Records.{mark_name, mark_of, mark_bytes, parted, record_at, Within};
 
 use cell::Cell;
 use std::error::Error;
@@ -103,24 +103,12 @@ impl Record {
         Some(Record::apart(record))
     }
 
-    // Writes a mark and a cell into the record of this number. All other bytes stay as they are.
-    pub(crate) fn write(bytes: &mut [u8], number: usize, mark: Mark, cell: Cell)
-        requires { Within (length bytes.old) number }
-        ensures { bytes.new ≡ with_record bytes.old number (record_of mark cell) }
-    {
-        let start = Record::LEN * number;
-        let mark = <[u8; 2]>::from(mark);
-        bytes[start..start + 2].copy_from_slice(&mark);
-        bytes[start + 2..start + Record::LEN].copy_from_slice(&cell.octets);
-    }
-
     // Takes the bytes of a record apart.
-    // Kept: a slice, which may have another length, since a pattern that names the rest of an array gets no proof.
-    pub(crate) fn apart(bytes: &[u8]) -> Record
-        requires { length bytes.now ≡ 50 }
+    // Kept: the array is looked at as a slice, since a pattern that names the rest of an array gets no proof.
+    pub(crate) fn apart(bytes: &[u8; Record::LEN]) -> Record
         ensures { result ≡ parted bytes.now }
     {
-        let [first, second, rest @ ..] = bytes else {
+        let [first, second, rest @ ..] = bytes.as_slice() else {
             unreachable()
         };
         let mut octets = [0; 48];

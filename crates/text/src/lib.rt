@@ -1,7 +1,6 @@
 // Lines of text, made without memory from an allocator.
 #![tactic(auto)]
 
-mod hex;
 mod line;
 mod piece;
 

@@ -1,7 +1,6 @@
 // A line, and making one piece by piece.
-ghost use Rattle.std.specs.Prelude.{◌≡◌, ◌≤◌, [], ◌∷◌, length, decimal, All};
+ghost use Rattle.std.specs.Prelude.{◌≡◌, ◌<◌, ◌≤◌, [], ◌∷◌, length, decimal, All};
 
-use crate::hex::hex_digit;
 use crate::piece::Piece;
 use itoa::Buffer;
 
@@ -16,7 +15,7 @@ pub struct Line {
 }
 
 impl Line {
-    ghost use Rattle.text.specs.Lines.{text_of, kept, Appends, hex_of, text_of_piece, text_of_pieces, FewDigits};
+    ghost use Rattle.text.specs.Lines.{text_of, kept, Appends, hex_digit, hex_of, text_of_piece, text_of_pieces, FewDigits};
 
     /// An empty line.
     pub fn new() -> Line
@@ -70,7 +69,7 @@ impl Line {
     pub fn push_hex(&mut self, octet: u8)
         ensures { Appends self.old (hex_of octet) self.new }
     {
-        self.push_all(&[hex_digit(octet / 16), hex_digit(octet % 16)]);
+        self.push_all(&[Line::hex_digit(octet / 16), Line::hex_digit(octet % 16)]);
     }
 
     /// A number more, decimal.
@@ -98,5 +97,14 @@ impl Line {
         for octet in octets {
             self.push_octet(*octet);
         }
+    }
+
+    // A digit: `0` to `9`, then `A` to `F`.
+    // Kept: no `{:X}`, since a `fmt` may fail, and a push cannot.
+    fn hex_digit(n: u8) -> u8
+        requires { n < 16 }
+        ensures { result ≡ hex_digit n }
+    {
+        if n < 10 { b'0' + n } else { b'A' + (n - 10) }
     }
 }

@@ -10,7 +10,7 @@ returns c =
     let s = c.args.self.now in
     let bytes = s.bytes.now in
     let first = looked bytes s.survey.taken s.survey.waiting c.in_ok-cell.cell c.in_ok-cell.ensures in
-    let written = c.write.ensures ∙ ap (λ (cell : Cell). with_record bytes s.survey.taken (record_of Taken cell)) first.1 in
+    let written = c.write_record.ensures ∙ ap (λ (cell : Cell). with_record bytes s.survey.taken (record_of Taken cell)) first.1 in
     record {
       meaning = rw written (drop_means bytes s.survey s.fit first.0);
       store = record {

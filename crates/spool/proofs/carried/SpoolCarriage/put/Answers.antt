@@ -8,11 +8,11 @@ returns c =
     let cell = c.args.cell in
     let n : length cell.octets ≡ 48 = search rules in
     record {
-      meaning = rw c.write.ensures (put_means s.bytes.now s.survey cell s.fit (omega arith) n);
+      meaning = rw c.write_record.ensures (put_means s.bytes.now s.survey cell s.fit (omega arith) n);
       store = record {
-        written = c.write.ensures;
+        written = c.write_record.ensures;
         counts = refl;
         loan_kept = refl;
-        stays_open = λ was-open. rw c.write.ensures (put_whole s.bytes.now s.survey cell (omega arith) n was-open);
+        stays_open = λ was-open. rw c.write_record.ensures (put_whole s.bytes.now s.survey cell (omega arith) n was-open);
       };
     }

@@ -1,6 +1,6 @@
 use Rattle.std.proofs.Common.{◌≡◌, length, rules}
 use Rattle.spool.proofs.Records.{record_written}
-use Rattle.spool.proofs.record.Record.write.Goals as goal
+use Rattle.spool.proofs.carried.write_record.Goals as goal
 
 pub returns : goal.returns
 returns c =
