@@ -32,11 +32,10 @@ impl TryFrom<u16> for Fate {
     ghost try_from_gives = { FateNumbered };
 
     fn try_from(number: u16) -> Result<Fate, Fault> {
-        match number {
-            // Kept: the arm takes only numbers that fit, where `u8::try_from` would need one more arm for its error.
-            0..=255 => Ok(Fate::Turn(number as u8)),
-            256 => Ok(Fate::Lost),
-            _ => Err(Fault::new(Refusal::FateNumber, Part::Plan)),
+        match u8::try_from(number) {
+            Ok(mask) => Ok(Fate::Turn(mask)),
+            Err(_) if number == 256 => Ok(Fate::Lost),
+            Err(_) => Err(Fault::new(Refusal::FateNumber, Part::Plan)),
         }
     }
 }

@@ -96,6 +96,7 @@ impl fmt::Display for Part {
 pub struct Fault {
     pub refusal: Refusal,
     pub part: Part,
+    // Kept: no Option, since a refusal that names no place tells 0, and is printed so.
     pub place: usize,
 }
 

@@ -10,7 +10,7 @@ use Rattle.header.specs.Polynomials.{reduced, remainder}
 use Rattle.header.specs.Code.{crc_of, body, sealed, syndrome_of, violated, first_with, named_by}
 use Rattle.header.specs.Reading.{fields_of, judged, answered, next_mode, finding, reading, mode_after}
 use Rattle.header.specs.Laws.{Explained}
-use Rattle.header.proofs.Computed.{any_below, each_below, some_below}
+use Rattle.header.proofs.Computed.{any_below, same_below, some_below}
 
 -- the header with the CSI and the count that stand in an octet
 abbrev sealed_again : ℕ → ℕ
@@ -25,12 +25,12 @@ one_off octet i = octet == bit_xor (sealed_again (turned_back octet)) (2 ^ i)
 -- an octet with syndrome 0 and an even number of ones is a header
 intact : (octet : ℕ) → octet < 256 → cond (syndrome_of octet == 0 && not (violated octet)) (sealed_again octet) octet ≡ octet
 unfolding sealed body syndrome_of crc_of remainder reduced ones ones_in
-intact = each_below _ (256 ∷ []) _ _ refl
+intact = same_below _ (256 ∷ []) _ _ refl
 
 -- one with an odd number of ones is one bit off the header that it becomes
 correctable : (octet : ℕ) → octet < 256 → cond (violated octet) (ltb (turned_back octet) 256 && any_below (one_off octet) 8) true ≡ true
 unfolding sealed body syndrome_of named_by first_with crc_of remainder reduced ones ones_in
-correctable = each_below _ (256 ∷ []) _ _ refl
+correctable = same_below _ (256 ∷ []) _ _ refl
 
 module _ (octet : ℕ) (h : octet < 256) where
   held : (m : Mode) → syndrome_of octet == 0 ≡ true → violated octet ≡ false → Explained m octet (fields_of octet true) Correction

@@ -11,7 +11,7 @@ use Rattle.header.specs.Polynomials.{generator, product, reduced, remainder}
 use Rattle.header.specs.Code.{crc_of, body, sealed, syndrome_of, first_with, named_by}
 use Rattle.header.specs.Reading.{fields_of, finding, reading, mode_after}
 use Rattle.header.specs.Laws.{headers, Formed, Reads, Protected}
-use Rattle.header.proofs.Computed.{any_below, each_below, some_below}
+use Rattle.header.proofs.Computed.{any_below, same_below, some_below}
 
 -- formed by the rules
 
@@ -21,7 +21,7 @@ divides csi count q = (csi * 8 + count) * 2 ^ 3 == bit_xor (product 4 q generato
 
 divided : (csi : ℕ) → csi < 2 → (count : ℕ) → count < 8 → any_below (divides csi count) 16 ≡ true
 unfolding product sealed body crc_of remainder reduced ones ones_in
-divided = each_below _ (2 ∷ 8 ∷ []) _ _ refl
+divided = same_below _ (2 ∷ 8 ∷ []) _ _ refl
 
 -- the CSI, the count, the parity and the whole octet
 abbrev parts : ℕ → ℕ × (ℕ × (ℕ × ℕ))
@@ -32,7 +32,7 @@ listed csi count = (csi, (count, (0, slice_index headers (csi * 8 + count))))
 
 parted : (csi : ℕ) → csi < 2 → (count : ℕ) → count < 8 → parts (sealed csi count) ≡ listed csi count
 unfolding sealed body crc_of remainder reduced ones ones_in
-parted = each_below _ (2 ∷ 8 ∷ []) _ _ refl
+parted = same_below _ (2 ∷ 8 ∷ []) _ _ refl
 
 pub sealed_formed : (csi count : ℕ) → csi < 2 → count < 8 → Formed csi count (sealed csi count)
 sealed_formed csi count h k =
@@ -66,22 +66,22 @@ turned_twice csi count i j = bit_xor (turned csi count i) (2 ^ j)
 
 clean : (m : Mode) (csi : ℕ) → csi < 2 → (count : ℕ) → count < 8 → found m (sealed csi count) ≡ (told csi count, Correction)
 unfolding reading mode_after finding sealed body syndrome_of named_by first_with crc_of remainder reduced ones ones_in
-clean Correction = each_below _ (2 ∷ 8 ∷ []) _ _ refl
-clean Detection = each_below _ (2 ∷ 8 ∷ []) _ _ refl
+clean Correction = same_below _ (2 ∷ 8 ∷ []) _ _ refl
+clean Detection = same_below _ (2 ∷ 8 ∷ []) _ _ refl
 
 one_turned : (csi : ℕ) → csi < 2 → (count : ℕ) → count < 8 → (i : ℕ) → i < 8 → found Correction (turned csi count i) ≡ (told csi count, Detection)
 unfolding reading mode_after finding sealed body syndrome_of named_by first_with crc_of remainder reduced ones ones_in
-one_turned = each_below _ (2 ∷ 8 ∷ 8 ∷ []) _ _ refl
+one_turned = same_below _ (2 ∷ 8 ∷ 8 ∷ []) _ _ refl
 
 one_detected : (csi : ℕ) → csi < 2 → (count : ℕ) → count < 8 → (i : ℕ) → i < 8 → found Detection (turned csi count i) ≡ (fields_of (turned csi count i) false, Detection)
 unfolding reading mode_after finding sealed body syndrome_of named_by first_with crc_of remainder reduced ones ones_in
-one_detected = each_below _ (2 ∷ 8 ∷ 8 ∷ []) _ _ refl
+one_detected = same_below _ (2 ∷ 8 ∷ 8 ∷ []) _ _ refl
 
 -- a bit that is turned twice is as it was
 two_turned : (m : Mode) (csi : ℕ) → csi < 2 → (count : ℕ) → count < 8 → (i : ℕ) → i < 8 → (j : ℕ) → j < 8 → found m (turned_twice csi count i j) ≡ cond (i == j) (told csi count, Correction) (fields_of (turned_twice csi count i j) false, Detection)
 unfolding reading mode_after finding sealed body syndrome_of named_by first_with crc_of remainder reduced ones ones_in
-two_turned Correction = each_below _ (2 ∷ 8 ∷ 8 ∷ 8 ∷ []) _ _ refl
-two_turned Detection = each_below _ (2 ∷ 8 ∷ 8 ∷ 8 ∷ []) _ _ refl
+two_turned Correction = same_below _ (2 ∷ 8 ∷ 8 ∷ 8 ∷ []) _ _ refl
+two_turned Detection = same_below _ (2 ∷ 8 ∷ 8 ∷ 8 ∷ []) _ _ refl
 
 pub sealed_protected : (csi count : ℕ) → csi < 2 → count < 8 → Protected csi count (sealed csi count)
 sealed_protected csi count h k = record {

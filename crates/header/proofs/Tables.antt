@@ -5,15 +5,15 @@ use Rattle.std.proofs.lemmas.Nat.{xor_lt}
 use Rattle.header.specs.Polynomials.{reduced, remainder}
 use Rattle.header.specs.Code.{crc_of, syndrome_of, first_with, named_by}
 use Rattle.header.specs.declared.code.TheConstants.{CRC, NAMED}
-use Rattle.header.proofs.Computed.{each_below}
+use Rattle.header.proofs.Computed.{same_below}
 
 pub crc_at : (bits : ℕ) → bits < 16 → slice_index CRC bits ≡ crc_of bits
 unfolding crc_of remainder reduced
-crc_at = each_below _ (16 ∷ []) _ _ refl
+crc_at = same_below _ (16 ∷ []) _ _ refl
 
 small : (bits : ℕ) → bits < 16 → ltb (crc_of bits) 8 ≡ true
 unfolding crc_of remainder reduced
-small = each_below _ (16 ∷ []) _ _ refl
+small = same_below _ (16 ∷ []) _ _ refl
 
 pub crc_small : (bits : ℕ) → bits < 16 → crc_of bits < 8
 crc_small bits h = ltb-true (crc_of bits) 8 (small bits h)
@@ -23,4 +23,4 @@ xor_small = xor_lt 3
 
 pub named_at : (s : ℕ) → s < 8 → slice_index NAMED s ≡ named_by s
 unfolding named_by first_with syndrome_of crc_of remainder reduced
-named_at = each_below _ (8 ∷ []) _ _ refl
+named_at = same_below _ (8 ∷ []) _ _ refl

@@ -18,7 +18,7 @@ fn crc(bits: u8) -> u8
     ensures value { result ≡ crc_of bits }
     ensures bound { result < 8 }
 {
-    CRC[bits as usize]
+    CRC[usize::from(bits)]
 }
 
 /// The syndrome of a header octet.
@@ -35,7 +35,7 @@ pub(crate) fn syndrome(octet: u8) -> u8
 pub(crate) fn named_bit(octet: u8) -> u8
     ensures { result ≡ named_by (syndrome_of octet) }
 {
-    NAMED[syndrome(octet) as usize]
+    NAMED[usize::from(syndrome(octet))]
 }
 
 /// The parity bit that makes the number of ones of an octet even: 1 exactly if that number is odd.

@@ -53,16 +53,9 @@ pub struct Reader {
     mode: Mode,
 }
 
-impl Default for Reader {
-    ghost is_default = { λ reader. reader.mode ≡ Correction };
-
-    fn default() -> Reader {
-        Reader::new()
-    }
-}
-
 impl Reader {
     /// A reader as it starts: in correction mode.
+    // Kept: no `Default`, which would be one more call that says the same.
     pub fn new() -> Reader
         ensures { result.mode ≡ Correction }
     {

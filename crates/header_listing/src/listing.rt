@@ -26,6 +26,7 @@ pub struct Listing {
 
 impl Listing {
     /// Before the first octet.
+    // Kept: no `Default`, which would be one more call that says the same.
     pub fn new() -> Listing
         ensures { result ≡ opened }
     {

@@ -12,6 +12,7 @@ use std::io::{BufWriter, Write};
 use std::{fmt, io, iter};
 
 // An entry of another kind than a number.
+// Kept: no Option, since an octet that is not good is told too.
 #[derive(Clone, Copy)]
 struct Item {
     octet: u8,

@@ -54,6 +54,7 @@ impl<'a> Carriage for Spool<'a> {
 }
 
 // Writes a mark and a cell into the record of this number. All other bytes stay as they are.
+// Kept: the place is computed, since nothing is known of a slice once it was lent as chunks to be written.
 fn write_record(bytes: &mut [u8], number: usize, mark: Mark, cell: Cell)
     requires { Within (length bytes.old) number }
     ensures { bytes.new ≡ with_record bytes.old number (record_of mark cell) }

@@ -104,7 +104,8 @@ impl Record {
     }
 
     // Takes the bytes of a record apart.
-    // Kept: the array is looked at as a slice, since a pattern that names the rest of an array gets no proof.
+    // Kept: a pattern that names the two bytes of the mark and the rest, as the rules of a record do. It is one of a slice, since
+    // one of an array gets no proof.
     pub(crate) fn apart(bytes: &[u8; Record::LEN]) -> Record
         ensures { result ≡ parted bytes.now }
     {

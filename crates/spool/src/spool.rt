@@ -5,6 +5,7 @@ ghost use Rattle.spool.specs.Surveys.{Fit, nothing};
 use crate::survey::Survey;
 use cell::Fault;
 
+// Kept: no state for a spool that is not open, since one that counts no records is the same to every call.
 /// Records in bytes of the caller: those taken, then those that wait, then those unused. None are counted before it is open.
 #[derive(Drop)]
 pub struct Spool<'a> {

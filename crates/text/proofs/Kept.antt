@@ -4,9 +4,8 @@ use lib.Seq.{take-append-le}
 use Rattle.std.specs.List.{concat}
 use Rattle.std.proofs.lemmas.List.{flat_map_more, take_more, take_more_set}
 use Rattle.std.proofs.lemmas.Bool.{cases_lt}
-use Rattle.text.specs.declared.line.Line.{Line}
 use Rattle.text.specs.declared.piece.Piece.{Piece}
-use Rattle.text.specs.Lines.{text_of, kept, text_of_piece, text_of_pieces}
+use Rattle.text.specs.Lines.{kept, text_of_piece, text_of_pieces}
 
 -- one octet
 
@@ -75,10 +74,3 @@ all_pushed t (p ∷ ps) u (more {v = v} e rest) =
 -- the same, onto an empty line, where all of it fits
 pub joined_line : (t : List ℕ) (ps : List (List ℕ)) (u : List ℕ) → t ≡ [] → length (concat ps) ≤ 96 → Pushed t ps u → u ≡ concat ps
 joined_line t ps u none short pushes = all_pushed t ps u pushes ∙ ap (λ zs. kept (zs ++ concat ps)) none ∙ kept_short (concat ps) short
-
--- what a line holds it keeps
-pub text_kept : (l : Line) → text_of l ≡ kept (text_of l)
-text_kept l =
-    let fits = l.fits in
-    let short : length (text_of l) ≤ 96 = simp length-take (omega arith) in
-    sym (kept_short (text_of l) short)

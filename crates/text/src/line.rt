@@ -18,6 +18,7 @@ impl Line {
     ghost use Rattle.text.specs.Lines.{text_of, kept, Appends, hex_digit, hex_of, text_of_piece, text_of_pieces, FewDigits};
 
     /// An empty line.
+    // Kept: no `Default`, which would be one more call that says the same.
     pub fn new() -> Line
         ensures { text_of result ≡ [] }
     {
@@ -81,6 +82,7 @@ impl Line {
     }
 
     // One octet more.
+    // Kept: octet by octet. With `copy_from_slice` in `push_all` the listing of a recording took half as long again.
     fn push_octet(&mut self, octet: u8)
         ensures { Appends self.old (octet ∷ []) self.new }
     {

@@ -10,8 +10,5 @@ returns-in_err-self c =
     let p = err_from_is_err_and c.from_residual.result c.from_residual.ensures.1 in
     rw (p.1, p.2) (record { answer = (refused, same_spool c.args.self.now _); reopens = λ left was-open same. absurd (never_refused bytes c.in_err-self.field-0.0 left was-open same refused) })
 
-pub returns : goal.returns
-returns c =
-    let bytes = c.args.self.now.bytes.now in
-    let found = c.in_ok-self.ensures.answer in
-    record { answer = (found, refl, refl); reopens = λ left was-open same. (refl, means_again bytes c.in_ok-self.field-0 left was-open same found) }
+pub returns-clause-reopens : goal.returns-clause-reopens
+returns-clause-reopens c = λ left was-open same. (refl, means_again c.args.self.now.bytes.now c.in_ok-self.field-0 left was-open same c.in_ok-self.ensures.answer)

@@ -5,7 +5,7 @@ use Rattle.cell.specs.declared.fault.Part.TheVariants as part
 use Rattle.cell.specs.declared.fault.Refusal.TheVariants.{SpoolRecord}
 use Rattle.spool.specs.declared.record.Record.{Record}
 use Rattle.spool.specs.Records.{parted}
-use Rattle.spool.specs.Surveys.{Misplaced, Surveyed, Whole}
+use Rattle.spool.specs.Surveys.{Misplaced, Surveyed}
 use Rattle.spool.proofs.Records.{record_in}
 use Rattle.spool.proofs.Surveys.{counts_none, counts_one, only_answer}
 use Rattle.spool.proofs.survey.Survey.of.Goals as goal
@@ -41,8 +41,5 @@ loop-number-preserved c =
     let one = counts_one bytes c.loop-number.survey c.in_ok-survey.survey c.loop-number.number c.apart-mark.result.mark inv.counted inv.ordered here.0 read (sym c.with.ensures ∙ c.in_ok-survey.ensures.ok_part) in
     record { counted = one.0; ordered = one.1 }
 
-pub returns : goal.returns
-returns c =
-    let bytes = c.args.bytes.now in
-    let answer : Whole bytes c.loop-number.survey = search rules in
-    record { answer = answer; only = only_answer bytes (Ok c.loop-number.survey) answer }
+pub returns-clause-only : goal.returns-clause-only
+returns-clause-only c = only_answer c.args.bytes.now (Ok c.loop-number.survey) (search rules)

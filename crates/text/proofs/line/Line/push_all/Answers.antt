@@ -1,5 +1,4 @@
-use Rattle.std.proofs.Common.{◌++◌, ap, ◌∙◌, take_all}
-use Rattle.text.specs.Lines.{text_of, kept}
+use Rattle.text.specs.Lines.{text_of}
 use Rattle.text.proofs.Kept.{kept_none, kept_next}
 use Rattle.text.proofs.line.Line.push_all.Goals as goal
 
@@ -10,8 +9,3 @@ pub loop-octet-preserved : goal.loop-octet-preserved
 loop-octet-preserved c =
     let turn = c.loop-octet in
     kept_next (text_of c.args.self.now) (text_of turn.self) (text_of c.push_octet.new.self) c.args.octets.now turn.octet-index c.loop-octet-test.true turn.invariant c.push_octet.ensures
-
-pub returns : goal.returns
-returns c =
-    let whole = take_all c.loop-octet.octet-index c.args.octets.now c.loop-octet-test.false in
-    c.loop-octet.invariant ∙ ap (λ xs. kept (text_of c.args.self.now ++ xs)) whole
