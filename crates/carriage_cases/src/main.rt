@@ -238,6 +238,7 @@ impl<W: Write> Cases<W> {
     }
 
     // One line: what is in the bytes, the opening, and the bytes afterwards.
+    // Kept: like `run_spool_case` in how a line begins and ends.
     fn run_opening(&mut self, marks: &[Option<Mark>]) -> io::Result<()> {
         let mut bytes = spool_bytes(self.heap, marks)?;
         self.write_name("opening", marks)?;
@@ -318,6 +319,7 @@ impl<W: Write> Cases<W> {
     }
 
     // Opens a spool.
+    // Kept: like `drop_first`. Each has its own word before the answer.
     fn open(&mut self, spool: &mut Spool<'_>) -> io::Result<()> {
         let answer = spool.open();
         write!(self.out, " open {};", done(answer))

@@ -83,6 +83,7 @@ impl Part {
     }
 }
 
+// Kept: one such block for each type that has a name, since no macro of the repository may write an impl.
 impl fmt::Display for Part {
     ghost output = { λ part. Some (name_of part) };
 

@@ -43,6 +43,7 @@ pub(crate) fn parity(octet: u8) -> u8
     ensures value { result ≡ count_ones octet % 2 }
     ensures bound { result < 2 }
 {
+    // Kept: `as`, since no `From` makes a number narrower.
     (octet.count_ones() % 2) as u8
 }
 

@@ -30,6 +30,7 @@ impl Mode {
     }
 }
 
+// Kept: one such block for each type that has a name, since no macro of the repository may write an impl.
 impl fmt::Display for Mode {
     ghost output = { λ mode. Some (mode_name mode) };
 

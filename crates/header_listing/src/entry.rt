@@ -35,6 +35,7 @@ impl Entry {
     }
 }
 
+// Kept: no `Display`, which would want a type for two words.
 fn validity_word(valid: bool) -> &'static str
     ensures { result.now ≡ validity_word valid }
 {

@@ -31,6 +31,7 @@ impl Table {
     }
 }
 
+// Kept: no Model. A refused call promises that the draft is equal to what it was, and not only that the same is written.
 /// A plan that is being written: up to `MAX_FATES` fates, for which there is memory from the start.
 #[derive(Drop)]
 pub struct Draft {

@@ -53,6 +53,7 @@ fn write_state<T: Copy + Display>(out: &mut impl Write, ring: &Ring<'_, T>) -> i
 // Runs one script on a ring: as many calls as there are entries, each a push of its entry or a pop.
 // The number of the script tells which, its lowest bit first: 1 is a push.
 // Kept: a test of a bit and no list of closures, since the number is the whole case.
+// Kept: the output and the entries side by side, here and below. A struct of the two would be no plainer.
 fn run_script<T: Copy + Display>(
     out: &mut impl Write,
     ring: &mut Ring<'_, T>,

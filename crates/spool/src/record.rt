@@ -32,6 +32,7 @@ impl Mark {
     }
 }
 
+// Kept: one such block for each type that has a name, since no macro of the repository may write an impl.
 impl fmt::Display for Mark {
     ghost output = { λ mark. Some (mark_name mark) };
 

@@ -17,6 +17,7 @@ pub struct Listing<'a> {
     survey: Survey,
 }
 
+// Kept: `as u64`, since no `From` goes from `usize` to another number.
 // Kept: no `Display` for the lines, since a `fmt` may fail, and a line of the listing cannot.
 impl<'a> Listing<'a> {
     /// The listing of a spool with these bytes. Refused as the opening of the spool would be.
@@ -90,6 +91,7 @@ fn header_piece(mark: Mark, cell: Cell) -> Piece<'static>
     }
 }
 
+// Kept: no `Display`, as for the other lines.
 /// The one line that is written in place of a listing: the refusal's number and its place.
 pub fn refusal_line(fault: &Fault) -> Line
     ensures { text_of result ≡ refusal_line fault.now }

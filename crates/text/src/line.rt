@@ -7,6 +7,7 @@ use itoa::Buffer;
 /// A line of at most 96 octets. What does not fit is left off.
 // Kept, an array with a length beside it: a line stands in fixed memory, can be copied, and is cut at an octet. An `ArrayVec`
 // cannot be copied, and an `ArrayString` is cut at a character.
+// Kept: no Model. A type that can be copied has to give its fields back from its model, and what stands past the length is in none.
 #[derive(Clone, Copy)]
 pub struct Line {
     octets: [u8; 96],
