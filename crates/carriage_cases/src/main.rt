@@ -297,14 +297,20 @@ impl<W: Write> Cases<W> {
         write!(self.out, " records")?;
         for number in 0..4 {
             match Record::at(bytes, number) {
-                Some(Record { mark, cell }) => {
-                    let name = mark.map_or("unknown", Mark::name);
-                    write!(self.out, " {name} {}", Shown(cell))?
-                }
+                Some(record) => self.write_record(record)?,
                 None => write!(self.out, " none")?,
             }
         }
         write!(self.out, ";")
+    }
+
+    // A record: its mark, and its cell.
+    fn write_record(&mut self, record: Record) -> io::Result<()> {
+        match record.mark {
+            Some(mark) => write!(self.out, " {mark}")?,
+            None => write!(self.out, " unknown")?,
+        }
+        write!(self.out, " {}", Shown(record.cell))
     }
 
     // The bytes of a spool: the mark and the header octet of each record, and the checksum of all bytes.

@@ -1,10 +1,9 @@
 // A record: two bytes of a mark, then the 48 octets of a cell.
-ghost use Rattle.std.specs.Prelude.{◌≡◌, length, slice_index, codes, Some, MatchOption};
+ghost use Rattle.std.specs.Prelude.{◌≡◌, length, slice_index, Some, MatchOption};
 ghost use Rattle.std.specs.Result.{result_ok};
 ghost use Rattle.spool.specs.Records.{mark_name, mark_of, mark_bytes, parted, record_at, Within};
 
 use cell::Cell;
-use std::error::Error;
 use std::fmt;
 
 /// What the mark of a record tells.
@@ -51,16 +50,6 @@ pub struct Record {
 /// Two bytes that are no mark.
 #[derive(Clone, Copy, PartialEq, Eq, Debug)]
 pub struct NoMark;
-
-impl fmt::Display for NoMark {
-    ghost output = { λ none. Some (codes "no mark") };
-
-    fn fmt<W: fmt::Write>(&self, f: &mut fmt::Formatter<W>) -> fmt::Result {
-        f.write_str("no mark")
-    }
-}
-
-impl Error for NoMark {}
 
 impl TryFrom<[u8; 2]> for Mark {
     type Error = NoMark;
