@@ -8,15 +8,7 @@ mod loans;
 pub use loans::{push_one, put_one, store_one};
 
 /// Every example of the list holds. The function does nothing: its promise is the theorem.
-#[tactic(
-    auto,
-    using(
-        crate::proofs::Headers::header_examples,
-        crate::proofs::HeaderListings::header_listing_examples,
-        crate::proofs::Lines::line_examples,
-        crate::proofs::SpoolListings::spool_listing_examples
-    )
-)]
+#[tactic(auto, using(crate::proofs::Headers::header_examples, crate::proofs::HeaderListings::header_listing_examples, crate::proofs::Lines::line_examples, crate::proofs::SpoolListings::spool_listing_examples))]
 pub fn examples_hold()
     ensures { Examples }
 {}
