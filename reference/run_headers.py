@@ -10,8 +10,9 @@ import header_code
 import header_listing
 from runs import Runs
 
-# Around one and two pieces of 4,096 octets, and one of some megabytes, whose listing is far longer than the memory of a run.
-LENGTHS = [0, 1, 2, 4095, 4096, 4097, 8191, 8192, 8193, 3_000_000]
+# Around a half, one and two buffers of the program, which have 8,192 octets, and one recording of some megabytes, whose listing is
+# far longer than the memory of a run.
+LENGTHS = [0, 1, 2, 4095, 4096, 4097, 8191, 8192, 8193, 16383, 16384, 16385, 3_000_000]
 
 
 def recording(length):
