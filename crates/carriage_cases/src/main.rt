@@ -394,8 +394,8 @@ impl<W: Write> Cases<W> {
     // One line of text: a line over a link that loses so many cells first.
     fn run_link(&mut self, fates: &[u16], losses: usize) -> io::Result<()> {
         self.write_line(fates)?;
-        write!(self.out, "link {losses}:")?;
         let mut plan = plan_of(self.heap, fates)?;
+        write!(self.out, "link {losses}:")?;
         let mut link = Link::new(losses);
         self.pass_cells(&mut Line::new(&mut link, &mut plan))?;
         writeln!(self.out, "")
@@ -404,32 +404,35 @@ impl<W: Write> Cases<W> {
     // One line of text: a line over a line over a queue of one slot.
     // Kept: two functions, this one and `run_spool`. What they have in common is `pass_lines`; the rest is the carriage.
     fn run_queue(&mut self, pair: Pair) -> io::Result<()> {
-        self.write_pair(pair)?;
+        let (mut own, mut below) = self.plans(pair)?;
         write!(self.out, "queue:")?;
         let mut slots = [sample(101)];
-        self.pass_lines(&mut Queue::new(&mut slots), pair)?;
+        self.pass_lines(&mut Queue::new(&mut slots), &mut own, &mut below)?;
         writeln!(self.out, "")
     }
 
     // One line of text: a line over a line over a spool of four records, and the bytes that are left.
     fn run_spool(&mut self, pair: Pair) -> io::Result<()> {
-        self.write_pair(pair)?;
-        write!(self.out, "spool:")?;
+        let (mut own, mut below) = self.plans(pair)?;
         let unused = Some(Mark::Unused);
         let mut bytes = spool_bytes(self.heap, &[Some(Mark::Taken), unused, unused, unused])?;
+        write!(self.out, "spool:")?;
         let mut spool = Spool::new(&mut bytes);
         self.open(&mut spool)?;
-        self.pass_lines(&mut spool, pair)?;
+        self.pass_lines(&mut spool, &mut own, &mut below)?;
         self.write_bytes(&bytes)?;
         writeln!(self.out, "")
     }
 
     // Passes cells through a line over a line over this carriage.
-    fn pass_lines<C: Carriage>(&mut self, carriage: &mut C, pair: Pair) -> io::Result<()> {
-        let mut below = plan_of(self.heap, pair.below)?;
-        let mut own = plan_of(self.heap, pair.own)?;
-        let mut lower = Line::new(carriage, &mut below);
-        self.pass_cells(&mut Line::new(&mut lower, &mut own))
+    fn pass_lines<C: Carriage>(
+        &mut self,
+        carriage: &mut C,
+        own: &mut Plan,
+        below: &mut Plan,
+    ) -> io::Result<()> {
+        let mut lower = Line::new(carriage, below);
+        self.pass_cells(&mut Line::new(&mut lower, own))
     }
 
     // Puts five cells. Where one is refused, the first that waits is taken, and the cell is put once more.
@@ -458,9 +461,14 @@ impl<W: Write> Cases<W> {
         write!(self.out, " over ")
     }
 
-    fn write_pair(&mut self, pair: Pair) -> io::Result<()> {
+    // Writes the fates of two lines, and answers their plans: the upper one, and the one below.
+    fn plans(&mut self, pair: Pair) -> io::Result<(Plan, Plan)> {
         self.write_line(pair.own)?;
-        self.write_line(pair.below)
+        self.write_line(pair.below)?;
+        Ok((
+            plan_of(self.heap, pair.own)?,
+            plan_of(self.heap, pair.below)?,
+        ))
     }
 }
 

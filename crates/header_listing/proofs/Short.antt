@@ -1,5 +1,5 @@
 -- Every line fits into the room of a line. Assumes nothing.
-use Rattle.std.proofs.Common.{◌≤◌, Bool, true, false, length, decimal, arith, length-append}
+use Rattle.std.proofs.Common.{◌≡◌, ℕ, ◌≤◌, Bool, true, false, List, ◌++◌, length, codes, decimal, ap, ◌∙◌, append_assoc, arith, length-append}
 use Rattle.header.specs.declared.reader.Mode.{Mode}
 use Rattle.header.specs.declared.reader.Mode.TheVariants.{Correction, Detection}
 use Rattle.header.specs.Reading.{mode_name}
@@ -24,3 +24,7 @@ pub summary_short : (t : Tally) → length (decimal t.read) ≤ 20 → length (d
 unfolding summary_of
 summary_short t h k l =
     simp length-append (omega arith)
+
+-- a word with a space on either side, as one piece of a line
+pub spaced_word : (front spaced word rest : List ℕ) → spaced ≡ codes " " ++ (word ++ codes " ") → front ++ (spaced ++ rest) ≡ front ++ (codes " " ++ (word ++ (codes " " ++ rest)))
+spaced_word front spaced word rest e = ap (λ (xs : List ℕ). front ++ xs) (ap (λ (xs : List ℕ). xs ++ rest) e ∙ ap (λ (xs : List ℕ). codes " " ++ xs) (append_assoc word (codes " ") rest))

@@ -1,5 +1,5 @@
 // What one line tells, and its text.
-ghost use Rattle.std.specs.Prelude.{◌≡◌};
+ghost use Rattle.std.specs.Prelude.{◌≡◌, ◌++◌, codes};
 ghost use Rattle.text.specs.Lines.{text_of};
 ghost use Rattle.header_listing.specs.Text.{validity_word, line_of};
 
@@ -26,18 +26,17 @@ impl Entry {
             Piece::Decimal(u64::from(self.reading.csi)),
             Piece::Text(" "),
             Piece::Decimal(u64::from(self.reading.count)),
-            Piece::Text(" "),
-            Piece::Text(validity_word(self.reading.valid)),
-            Piece::Text(" "),
+            Piece::Text(validity_words(self.reading.valid)),
             Piece::Text(self.mode.name()),
             Piece::Text("\n"),
         ])
     }
 }
 
+// The word with a space on either side. It is one piece of a line so: three pieces take longer.
 // Kept: no `Display`, which would want a type for two words.
-fn validity_word(valid: bool) -> &'static str
-    ensures { result.now ≡ validity_word valid }
+fn validity_words(valid: bool) -> &'static str
+    ensures { result.now ≡ codes " " ++ (validity_word valid ++ codes " ") }
 {
-    if valid { "valid" } else { "invalid" }
+    if valid { " valid " } else { " invalid " }
 }

@@ -93,7 +93,8 @@ impl Draft {
         ensures { ahead result ≡ written self }
     {
         Plan {
-            fates: self.table.fates.into_iter(),
+            fates: self.table.fates,
+            used: 0,
         }
     }
 }

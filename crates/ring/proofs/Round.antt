@@ -13,6 +13,13 @@ slot_after_near n h c l = mod-eq_of_lt l
 pub slot_after_far : (n h c : ℕ) → n ≤ h + c → h + c < n + n → slot_after n h c ≡ h + c - n
 slot_after_far n h c l m = mod-eq-sub-mod l ∙ mod-eq_of_lt (omega arith)
 
+-- the slot behind one of n slots: the next, and behind the last one the first
+pub behind_near : (n h : ℕ) → h + 1 < n → h + 1 ≡ (h + 1) % n
+behind_near n h l = sym (mod-eq_of_lt l)
+
+pub behind_last : (n h : ℕ) → h < n → n ≤ h + 1 → 0 ≡ (h + 1) % n
+behind_last n h l m = let e : h + 1 ≡ n = omega arith in sym (ap (λ (k : ℕ). k % n) e ∙ mod_self n)
+
 pub slot_after_push : (n h c : ℕ) → slot_after n h (c + 1) ≡ (slot_after n h c + 1) % n
 slot_after_push n h c = let e : h + (c + 1) ≡ h + c + 1 = omega arith in ap (λ (k : ℕ). k % n) e ∙ sym (mod-add-mod (h + c) n 1)
 

@@ -1,7 +1,7 @@
 // A ring buffer over slots of the caller, and its calls.
 #![tactic(auto, using(crate::proofs::Rings::counts))]
 
-ghost use Rattle.std.specs.Prelude.{◌≡◌, ◌-◌, ◌<◌, ◌≤◌, ◌↔◌, [], length, IsTrue};
+ghost use Rattle.std.specs.Prelude.{◌≡◌, ◌+◌, ◌-◌, ◌%◌, ◌<◌, ◌≤◌, ◌↔◌, [], length, IsTrue};
 
 use cell::{Fault, Part, Refusal};
 
@@ -73,7 +73,7 @@ impl<'a, T: Copy> Ring<'a, T> {
         ensures { Pop self.old result self.new }
     {
         let oldest = self.first()?;
-        self.head = (self.head + 1) % self.slots.len();
+        self.head = self.next_head();
         self.count -= 1;
         Ok(oldest)
     }
@@ -87,6 +87,17 @@ impl<'a, T: Copy> Ring<'a, T> {
             return Err(Fault::new(Refusal::Empty, Part::Ring));
         }
         Ok(self.slots[self.head])
+    }
+
+    // The slot behind the head, round the end.
+    // Kept: a test and no `%`, which would divide, and takes several times as long.
+    #[tactic(auto, using(crate::proofs::Round::behind_near, crate::proofs::Round::behind_last))]
+    fn next_head(&self) -> usize
+        requires { self.now.head < length self.now.slots.now }
+        ensures { result ≡ (self.now.head + 1) % length self.now.slots.now }
+    {
+        let after = self.head + 1;
+        if after < self.slots.len() { after } else { 0 }
     }
 
     // The slot that the next push writes.

@@ -1,10 +1,10 @@
 -- Laws of records: what a write into one leaves in it and in the others, and what a mark is read as.
-use Rattle.std.proofs.Common.{◌≡◌, ℕ, zero, suc, ◌+◌, ◌-◌, ◌*◌, ◌/◌, ◌<◌, ◌≤◌, ◌≢◌, List, [], ◌∷◌, ◌++◌, length, get_or, take, drop, Some, sym, refl, ap, ◌∙◌, ⊎_elim, arith, length-append, length-drop, length-take, take-add, lit≤}
+use Rattle.std.proofs.Common.{◌≡◌, ℕ, zero, suc, ◌+◌, ◌-◌, ◌*◌, ◌/◌, ◌<◌, ◌≤◌, ◌≢◌, List, [], ◌∷◌, ◌++◌, length, get_or, take, drop, set, Some, sym, refl, ap, ◌∙◌, ⊎_elim, arith, length-append, length-drop, length-take, take-add, lit≤}
 use borrow.Rule.Slice.PartMut.{put_mid}
 use lib.Seq.{paste}
 use Rattle.std.proofs.lemmas.List.Edits.{paste_all}
-use Rattle.std.proofs.lemmas.List.{append_assoc, drop_at, drop-drop, drop-take, length-take-le, take_at, take-take}
-use Rattle.std.proofs.lemmas.Slice.{take-put_mid, take-put_mid_below, drop-put_mid}
+use Rattle.std.proofs.lemmas.List.{append_assoc, drop-append-le, drop_at, drop-drop, drop-take, drop_more, length-take-le, set-append_right, set_at, take-append-drop, take_at, take-take}
+use Rattle.std.proofs.lemmas.Slice.{take-put_mid_below, drop-put_mid}
 use Rattle.std.proofs.lemmas.Bool.{cases_lt}
 use Rattle.std.proofs.lemmas.Bool.Decides.{nat_tests}
 use Rattle.std.specs.Simd.{first_chunks}
@@ -40,6 +40,44 @@ record_elsewhere bytes new number other w n apart =
     ap (take 50) (ap (drop (50 * other)) (placed bytes new number) ∙ drop-put_mid (50 * number) 50 bytes new (50 * other) (omega arith) (omega arith) n) in
     ⊎_elim before behind (cases_lt other number)
 
+-- a second write into the same record
+pub written_twice : (bytes first second : List ℕ) (number : ℕ) → Within (length bytes) number → length first ≡ 50 → with_record (with_record bytes number first) number second ≡ with_record bytes number second
+written_twice bytes first second number w n =
+    let front : take (50 * number) (with_record bytes number first) ≡ take (50 * number) bytes = take_at (take (50 * number) bytes) (first ++ drop (50 * number + 50) bytes) (50 * number) (length-take-le (50 * number) bytes (omega arith)) in
+    let back : drop (50 * number + 50) (with_record bytes number first) ≡ drop (50 * number + 50) bytes = ap (drop (50 * number + 50)) (placed bytes first number) ∙ drop-put_mid (50 * number) 50 bytes first (50 * number + 50) (omega arith) (omega arith) n in
+    ap (λ (bs : List ℕ). bs ++ (second ++ drop (50 * number + 50) (with_record bytes number first))) front
+    ∙ ap (λ (bs : List ℕ). take (50 * number) bytes ++ (second ++ bs)) back
+
+-- two bytes are written, one after the other
+two_set : (p q : List ℕ) (x y f g a : ℕ) → length p ≡ a → set (set (p ++ x ∷ y ∷ q) a f) (a + 1) g ≡ p ++ f ∷ g ∷ q
+two_set p q x y f g a e =
+    let one : a + 1 - a ≡ 1 = omega arith in
+    ap (λ (l : List ℕ). set l (a + 1) g) (set_at p x (y ∷ q) f a e) ∙ set-append_right p (f ∷ y ∷ q) a (a + 1) g e (omega arith) ∙ ap (λ (i : ℕ). p ++ set (f ∷ y ∷ q) i g) one
+
+-- what stands behind the first two of 50 bytes
+behind_two : (xs : List ℕ) → 50 ≤ length xs → drop 2 xs ≡ drop 2 (take 50 xs) ++ drop 50 xs
+behind_two xs l =
+    let n = length-take-le 50 xs l in
+    ap (drop 2) (sym (take-append-drop 50 xs)) ∙ drop-append-le 2 (take 50 xs) (drop 50 xs) (omega arith)
+
+-- the two bytes of the mark are written, and the record keeps its cell
+pub mark_written : (bytes : List ℕ) (number first second : ℕ) → Within (length bytes) number → set (set bytes (50 * number) first) (50 * number + 1) second ≡ with_record bytes number (first ∷ second ∷ drop 2 (record_at bytes number))
+mark_written bytes number first second w =
+    let a : ℕ = 50 * number in
+    let x : ℕ = get_or bytes a 0 in
+    let y : ℕ = get_or bytes (a + 1) 0 in
+    let on : a + 1 + 1 ≡ a + 2 = omega arith in
+    let split : bytes ≡ take a bytes ++ x ∷ y ∷ drop (a + 2) bytes =
+    sym (take-append-drop a bytes)
+    ∙ ap (λ (bs : List ℕ). take a bytes ++ bs) (drop_more bytes a 0 (omega arith)
+    ∙ ap (λ (bs : List ℕ). x ∷ bs) (drop_more bytes (a + 1) 0 (omega arith) ∙ ap (λ (i : ℕ). y ∷ drop i bytes) on)) in
+    let l = length-drop a bytes in
+    let rest : drop (a + 2) bytes ≡ drop 2 (record_at bytes number) ++ drop (a + 50) bytes =
+    sym (drop-drop 2 a bytes) ∙ behind_two (drop a bytes) (omega arith) ∙ ap (λ (bs : List ℕ). drop 2 (record_at bytes number) ++ bs) (drop-drop 50 a bytes) in
+    ap (λ (bs : List ℕ). set (set bs a first) (a + 1) second) split
+    ∙ two_set (take a bytes) (drop (a + 2) bytes) x y first second a (length-take-le a bytes (omega arith))
+    ∙ ap (λ (bs : List ℕ). take a bytes ++ first ∷ second ∷ bs) rest
+
 -- one of the records that bytes hold, of all of them as arrays
 chunk_at : (bytes : List ℕ) (count number : ℕ) (d : List ℕ) → number < count → get_or (first_chunks 50 count bytes) number d ≡ record_at bytes number
 chunk_at bytes zero number d l = absurd (omega arith)
@@ -64,16 +102,21 @@ cell_written bytes octets number w n =
     ∙ append_assoc (take a bytes) (take 2 (record_at bytes number)) (octets ++ rest)
     ∙ ap (λ (bs : List ℕ). take a bytes ++ bs) (sym (append_assoc (take 2 (record_at bytes number)) octets rest))
 
--- a mark and a cell are written, one after the other
-pub record_written : (bytes octets : List ℕ) (number : ℕ) (mark : Mark) → Within (length bytes) number → length octets ≡ 48 → put_mid (50 * number + 2) (50 * number + 50 - (50 * number + 2)) (put_mid (50 * number) (50 * number + 2 - 50 * number) bytes (mark_bytes mark)) octets ≡ with_record bytes number (mark_bytes mark ++ octets)
+-- a cell and then a mark are written
+pub record_written : (bytes octets : List ℕ) (number : ℕ) (mark : Mark) → Within (length bytes) number → length octets ≡ 48 → put_mid (50 * number) (50 * number + 2 - 50 * number) (put_mid (50 * number + 2) (50 * number + 50 - (50 * number + 2)) bytes octets) (mark_bytes mark) ≡ with_record bytes number (mark_bytes mark ++ octets)
 record_written bytes octets number mark w n =
     let a : ℕ = 50 * number in
     let two : a + 2 - a ≡ 2 = omega arith in
     let rest : a + 50 - (a + 2) ≡ 48 = omega arith in
     let on : a + 2 + 48 ≡ a + 50 = omega arith in
-    let front : take (a + 2) (put_mid a 2 bytes (mark_bytes mark)) ≡ take a bytes ++ mark_bytes mark = take-put_mid a 2 bytes (mark_bytes mark) (a + 2) refl (omega arith) in
-    let back : drop (a + 2) (put_mid a 2 bytes (mark_bytes mark)) ≡ drop (a + 2) bytes = drop-put_mid a 2 bytes (mark_bytes mark) (a + 2) (omega arith) (omega arith) refl in
-    rw (two, rest, front, back, drop-drop 48 (a + 2) bytes, on, append_assoc (take a bytes) (mark_bytes mark) (octets ++ drop (a + 50) bytes))
+    let celled : List ℕ = put_mid (a + 2) 48 bytes octets in
+    let front : take a celled ≡ take a bytes = take-put_mid_below (a + 2) 48 bytes octets a (omega arith) (omega arith) in
+    let long : length (take (a + 2) bytes) ≡ a + 2 = length-take-le (a + 2) bytes (omega arith) in
+    let back : drop 2 (drop a celled) ≡ octets ++ drop (a + 50) bytes =
+    drop-drop 2 a celled
+    ∙ drop_at (take (a + 2) bytes) (octets ++ drop 48 (drop (a + 2) bytes)) (a + 2) long
+    ∙ ap (λ (bs : List ℕ). octets ++ bs) (drop-drop 48 (a + 2) bytes ∙ ap (λ (i : ℕ). drop i bytes) on) in
+    rw (two, rest, front, back) refl
 
 -- the mark of two bytes, and the two bytes of a mark
 pub mark_read : (mark : Mark) → mark_of (first_byte mark) (second_byte mark) ≡ Some mark

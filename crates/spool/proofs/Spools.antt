@@ -1,7 +1,6 @@
 -- Laws of a spool: what put, drop and opening do to its meaning.
 use Rattle.std.proofs.Common.{◌≡◌, ℕ, zero, suc, ◌+◌, ◌-◌, ◌<◌, ◌≤◌, ◌≢◌, List, [], ◌∷◌, ◌++◌, length, take, drop, Ok, Err, Result, sym, refl, ap, ◌∙◌, subst, ⊎_elim, arith, length-drop}
 use Rattle.std.proofs.lemmas.List.FromFn.{map-range_with_len_more}
-use Rattle.std.proofs.Math.Bridge.{le_prop}
 use Rattle.std.proofs.lemmas.Bool.{cases_eq}
 use Rattle.std.proofs.lemmas.Bool.Decides.{nat_tests}
 use Rattle.cell.proofs.Cells.{turned_none}
@@ -17,13 +16,6 @@ use Rattle.spool.specs.Spools.{bytes_of, cells_in, meaning_in, spool_meaning, Is
 use Rattle.spool.specs.Surveys.{Fit, survey_of, records_of, mark_in, GoodLength, Whole, Surveyed}
 use Rattle.spool.proofs.Records.{length_record, length_with, record_there, record_elsewhere}
 use Rattle.spool.proofs.Surveys.{is_taken, is_waiting, opens_again}
-
-abbrev with_fit : (s : Spool) → Fit (bytes_of s) s.survey → Spool
-with_fit s fit = record { bytes = s.bytes; survey = s.survey; fit = fit }
-
--- a spool with the same bytes and counts is the same
-pub same_spool : (s : Spool) (fit : Fit (bytes_of s) s.survey) → ◌≡◌ {A = Spool} (record { bytes = s.bytes; survey = s.survey; fit = fit }) s
-same_spool s fit = ap (λ (f : Fit (bytes_of s) s.survey). with_fit s f) (le_prop fit s.fit)
 
 -- the cells in some records that are as they were
 cells_same : (bytes other : List ℕ) (from count : ℕ) → ((k : ℕ) → from ≤ k → k < from + count → record_at bytes k ≡ record_at other k) → cells_in bytes from count ≡ cells_in other from count

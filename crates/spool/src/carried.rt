@@ -61,6 +61,7 @@ fn write_record(bytes: &mut [u8], number: usize, mark: Mark, cell: Cell)
 {
     let start = Record::LEN * number;
     let mark = <[u8; 2]>::from(mark);
-    bytes[start..start + 2].copy_from_slice(&mark);
+    // The mark last: until then a record that was unused still is, whatever its other bytes are.
     bytes[start + 2..start + Record::LEN].copy_from_slice(&cell.octets);
+    bytes[start..start + 2].copy_from_slice(&mark);
 }

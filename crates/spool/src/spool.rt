@@ -16,6 +16,7 @@ pub struct Spool<'a> {
 
 impl<'a> Spool<'a> {
     ghost use Rattle.spool.specs.Spools.{bytes_of, loan_of, Opened, Reopened};
+    ghost use Rattle.spool.specs.Surveys.{Surveyed};
 
     /// A spool over these bytes that is not open yet: no cell waits, and there is no room. The bytes stay as they are.
     pub fn new(bytes: &'a mut [u8]) -> Spool<'a>
@@ -35,9 +36,15 @@ impl<'a> Spool<'a> {
         ensures answer { Opened self.old result self.new }
         ensures reopens { Reopened self.old result self.new }
     {
-        // Kept: lent as `&mut`, since of bytes lent as `&` out of a `&mut self` the proof knows no element afterwards.
-        let bytes = &mut *self.bytes;
-        self.survey = Survey::of(bytes)?;
+        self.survey = self.surveyed()?;
         Ok(())
+    }
+
+    // The records that the bytes hold.
+    // Kept: a call of its own. In `open`, of bytes lent as `&` out of a `&mut self` the proof knows no element afterwards.
+    fn surveyed(&self) -> Result<Survey, Fault>
+        ensures { Surveyed (bytes_of self.now) result }
+    {
+        Survey::of(self.bytes)
     }
 }

@@ -1,12 +1,31 @@
 // Lists the records of a spool: from standard input to standard output.
 #![tactic(auto)]
 
+ghost use Rattle.std.specs.Prelude.{◌≤◌, length, IfOk};
+
 use spool_listing::{Listing, refusal_line};
 use std::io;
 use std::io::{BufWriter, Read, Write};
 
 // One byte more than the longest spool has: with that many it is refused, whatever follows.
-const MOST: u64 = 65_501;
+const MOST: usize = 65_501;
+
+// Fills the buffer as far as the input goes, and answers how many bytes came.
+// Kept: an array and a loop. A `Vec` and `read_to_end` need memory that may not be there.
+fn fill(rt: &HostRuntime, buffer: &mut [u8]) -> io::Result<usize>
+    ensures { IfOk result (λ n. n ≤ length buffer.old) }
+{
+    let mut input = rt.stdin();
+    let mut filled = 0;
+    while filled < buffer.len() {
+        let n = input.read(&mut buffer[filled..])?;
+        if n == 0 {
+            break;
+        }
+        filled += n;
+    }
+    Ok(filled)
+}
 
 // The lines of all records and the last line, or the refusal alone.
 fn write_listing(output: &mut impl Write, bytes: &[u8]) -> io::Result<()> {
@@ -22,10 +41,10 @@ fn write_listing(output: &mut impl Write, bytes: &[u8]) -> io::Result<()> {
 }
 
 fn list(rt: &HostRuntime) -> io::Result<()> {
-    let mut bytes = Vec::new(rt.alloc());
-    rt.stdin().take(MOST).read_to_end(&mut bytes)?;
+    let mut buffer = [0u8; MOST];
+    let filled = fill(rt, &mut buffer)?;
     let mut output = BufWriter::new(rt.alloc(), rt.stdout())?;
-    write_listing(&mut output, &bytes)?;
+    write_listing(&mut output, &buffer[0..filled])?;
     output.flush()
 }
 
