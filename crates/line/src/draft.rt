@@ -79,12 +79,18 @@ impl Draft {
     pub fn amend(&mut self, place: usize, number: u16) -> Result<(), Fault>
         ensures { Amended self.old place number result self.new }
     {
-        let written = self.table.entry(place).ok_or(Fault {
-            refusal: Refusal::NoFate,
-            part: Part::Plan,
-            place,
-        })?;
-        *written = Fate::try_from(number)?;
+        // Kept: a test and then the loan. Where the loan is the test, an edit of the place also accepts one past the last.
+        if place >= self.table.fates.len() {
+            return Err(Fault {
+                refusal: Refusal::NoFate,
+                part: Part::Plan,
+                place,
+            });
+        }
+        let fate = Fate::try_from(number)?;
+        if let Some(written) = self.table.entry(place) {
+            *written = fate;
+        }
         Ok(())
     }
 

@@ -1,6 +1,6 @@
 // The listing of a spool, and its lines.
 ghost use Rattle.std.specs.Prelude.{◌≡◌, ◌/◌, ◌++◌, length, MatchOption};
-ghost use Rattle.spool.specs.Records.{Within};
+ghost use Rattle.spool.specs.Records.{mark_name, Within};
 ghost use Rattle.spool.specs.Surveys.{mark_in, records_of};
 ghost use Rattle.text.specs.Lines.{text_of, kept, text_of_piece};
 ghost use Rattle.spool_listing.specs.Listings.{listed_bytes, IsListed, Listed, line_at};
@@ -37,7 +37,7 @@ impl<'a> Listing<'a> {
         Some(Line::of(&[
             Piece::Decimal(number as u64),
             Piece::Text(" "),
-            Piece::Text(mark.name()),
+            mark_piece(mark),
             Piece::Text(" "),
             header_piece(mark, found.cell),
             Piece::Text("\n"),
@@ -79,6 +79,13 @@ impl<'a> Listing<'a> {
             Mark::Unused
         }
     }
+}
+
+// The word of a mark.
+fn mark_piece(mark: Mark) -> Piece<'static>
+    ensures { text_of_piece result ≡ mark_name mark }
+{
+    Piece::Text(mark.name())
 }
 
 // The header octet of a record's cell, if it has one.

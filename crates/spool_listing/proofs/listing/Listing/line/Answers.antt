@@ -20,5 +20,5 @@ returns c =
     let cell : Cell = cell_at l.bytes.now number in
     let found = c.in_ok-found.ensures in
     let same : c.in_ok-found.found.cell ≡ cell = ap (λ (r : Record). r.cell) found.1 in
-    let made : text_of c.of.result ≡ kept (record_line number mark cell) = cc (c.of.ensures.text, c.mark-mark.ensures, c.name.ensures, c.header_piece.ensures, same) in
+    let made : text_of c.of.result ≡ kept (record_line number mark cell) = cc (c.of.ensures.text, c.mark-mark.ensures, c.mark_piece.ensures, c.header_piece.ensures, same) in
     (found.0, made ∙ kept_short (record_line number mark cell) (line_short number mark cell (c.of.ensures.digits 0 (Decimal 0) (omega arith))))
